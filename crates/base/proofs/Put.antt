@@ -1,0 +1,63 @@
+-- Laws of `put`, for whoever writes into a lent buffer. Assumes nothing.
+use mathlib.Core.Path.{_≡_, refl, sym, ap, _∙_}
+use mathlib.Core.List.{List, [], _∷_, _++_, append-assoc, append-nil}
+use Prim.Native.Nat.{ℕ, _+_, _-_, _≤_}
+use native.Mathlib.Nat.{zero-add, add-assoc}
+use native.Mathlib.Omega.{arith}
+use lib.ListN.{length, take, drop, length-append, length-take, length-drop, drop-of-length-le}
+use lib.Seq.{take-length, drop-drop, drop-append-add, take-at, sets, sets-eq, length-take-le}
+use Rattle.base.specs.Buffer.{put}
+
+pub put-length : (d s : List ℕ) (at : ℕ) → at + length s ≤ length d → length (put d at s) ≡ length d
+unfolding put
+put-length d s at h = simp (length-append, length-take, length-drop) (omega arith)
+
+-- all that ends at k: the buffer's own bytes before, and what was put
+put-head : (d s : List ℕ) (at k : ℕ) → k ≡ at + length s → k ≤ length d → length (take at d ++ s) ≡ k
+put-head d s at k e h = simp (length-append, length-take) (omega arith)
+
+pub put-take : (d s : List ℕ) (at k : ℕ) → k ≡ at + length s → k ≤ length d → take k (put d at s) ≡ take at d ++ s
+unfolding put
+put-take d s at k e h =
+    rw (← append-assoc (take at d) s (drop (at + length s) d))
+    (take-at (take at d ++ s) (drop (at + length s) d) k (put-head d s at k e h))
+
+behind : (x r t : List ℕ) (k : ℕ) → length x ≡ k → take k (x ++ r) ++ (t ++ drop (k + length t) (x ++ r)) ≡ x ++ (t ++ drop (length t) r)
+behind x r t k e = rw (take-at x r k e, ← e, drop-append-add)
+
+-- one right behind the other is both at once
+pub put-put : (d s t : List ℕ) (at k : ℕ) → k ≡ at + length s → k + length t ≤ length d → put (put d at s) k t ≡ put d at (s ++ t)
+unfolding put
+put-put d s t at k e h =
+    ap (λ (x : List ℕ). take k x ++ (t ++ drop (k + length t) x)) (sym (append-assoc (take at d) s (drop (at + length s) d)))
+    ∙ behind (take at d ++ s) (drop (at + length s) d) t k (put-head d s at k e (omega arith))
+    ∙ simp (append-assoc, drop-drop, length-append, add-assoc)
+
+-- stores one after the other are the bytes put
+pub put-sets : (d s : List ℕ) (at : ℕ) → at + length s ≤ length d → sets d at s ≡ put d at s
+unfolding put
+put-sets d s at h = sets-eq s d at h ∙ append-assoc (take at d) s (drop (at + length s) d)
+
+-- bytes put behind the first k are the first k and they, put at the start
+pub put-front : (d s : List ℕ) (k : ℕ) → k ≤ length d → put d k s ≡ put d 0 (take k d ++ s)
+unfolding put
+put-front d s k h = simp (append-assoc, length-append, length-take-le k d h, zero-add)
+
+drop-past : (s d : List ℕ) (n : ℕ) → length s ≤ n → drop n (s ++ drop (length s) d) ≡ drop n d
+drop-past s d n h =
+    let e : n ≡ length s + (n - length s) = omega arith in
+    rw e (drop-append-add s (drop (length s) d) (n - length s) ∙ drop-drop (n - length s) (length s) d)
+
+-- bytes put at the start hide fewer that were put there before
+pub put-over : (d s t : List ℕ) → length s ≤ length d → length s ≤ length t → put (put d 0 s) 0 t ≡ put d 0 t
+unfolding put
+put-over d s t h l =
+    ap (λ (x : List ℕ). t ++ x) (rw (zero-add, zero-add) (drop-past s d (length t) l))
+
+-- a lent part of k bytes that comes back with all of s copied over it is s put where the part begins
+pub put-part : (d s part : List ℕ) (at k : ℕ) → k ≡ length s → at + k ≤ length d
+    → part ≡ take (length s) s ++ drop (length s) (take k (drop at d)) → take at d ++ (part ++ drop k (drop at d)) ≡ put d at s
+unfolding put
+put-part d s part at k e h q =
+    let rest : drop k (take k (drop at d)) ≡ [] = drop-of-length-le (take k (drop at d)) {i = k} (simp (length-take, length-drop) (omega arith)) in
+    rw (q, take-length, ← e, rest, append-nil, drop-drop)

@@ -1,0 +1,4 @@
+pub mod Xor
+pub mod Linear
+pub mod Agree
+pub mod Laws

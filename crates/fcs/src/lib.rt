@@ -1,0 +1,47 @@
+// The frame check sequence. Only this crate knows the polynomial, and only its own functions reach the table.
+mod table;
+
+ghost use mathlib.Core.Path.{_≡_};
+ghost use Rattle.fcs.specs.Checksum.{byteStep, checksumOf, Agrees};
+
+// The bit rule of section 8.1.1, eight times.
+pub fn bit_rule(seed: u16, byte: u8) -> u16
+    ensures { λ r. ⌜ r ≡ byteStep seed byte ⌝ }
+{
+    let mut crc = seed;
+    let mut bits = byte as u16;
+    let mut k: usize = 0;
+    while k < 8 {
+        if (crc & 1) == (bits & 1) {
+            crc = crc >> 1;
+        } else {
+            crc = (crc >> 1) ^ 0x8408;
+        }
+        bits = bits >> 1;
+        k += 1;
+    }
+    crc
+}
+
+// One byte by the table.
+fn step(table: &[u16; 256], seed: u16, byte: u8) -> u16
+    requires { ⌜ Agrees (now table) ⌝ }
+    ensures { λ r. ⌜ r ≡ byteStep seed byte ⌝ }
+{
+    let i = ((seed ^ (byte as u16)) & 0xFF) as usize;
+    table[i] ^ (seed >> 8)
+}
+
+// The checksum of all of bytes.
+pub fn checksum(bytes: &[u8]) -> u16
+    ensures { λ r. ⌜ r ≡ checksumOf (now (bytes .entry)) ⌝ }
+{
+    let entries = table::entries();
+    let mut crc: u16 = 0;
+    let mut i = 0;
+    while i < bytes.len() {
+        crc = step(&entries, crc, bytes[i]);
+        i += 1;
+    }
+    crc
+}

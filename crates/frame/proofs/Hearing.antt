@@ -1,0 +1,106 @@
+-- What hearing cites, and that what was written is heard. Assumes nothing.
+use mathlib.Core.Path.{_≡_, refl, sym, ap, _∙_}
+use mathlib.Core.Bool.{Bool, true, false, _&&_, and-true}
+use mathlib.Core.List.{List, [], _∷_, _++_}
+use Prim.Native.Nat.{ℕ, zero, suc, _+_, _-_, _*_, _/_, _%_, _<_, _≤_}
+use native.Mathlib.Nat.{le-refl}
+use native.Mathlib.Numerals.{add-one}
+use native.Mathlib.Omega.{arith}
+use borrow.Author.Tests.{le-ltb, le-leb, lt-leb, eq-eqb, ne-eqb}
+use lib.ListN.{length, take, drop, getD, length-append}
+use lib.Seq.{drop-cons, take-append-seam, drop-append-seam}
+use lib.Dec.{eqb, leb}
+use Rattle.fcs.specs.Checksum.{checksumOf}
+use Rattle.frame.specs.declared.Heard.the-variants.{Ack, Nak, Data}
+use Rattle.frame.specs.Bytes.{lenBytes, fcsBytes, sealed, frameOf, dataFrame, ackFrame, nakFrame, resetFrame}
+use Rattle.frame.specs.Steps.{sameBytes, fcsAt, used, accepted, judged, heard, lenOf, isControl}
+use Rattle.frame.specs.Promises.{DataHeard, AckHeard, NakHeard, ResetHeard}
+use Rattle.frame.proofs.Writing.{sealed-length, frameOf-length}
+
+-- ---- step 1
+
+two : (x : List ℕ) (at : ℕ) → at + 2 ≤ length x → take 2 (drop at x) ≡ getD x at 0 ∷ getD x (at + 1) 0 ∷ []
+two x at h = rw (drop-cons x at 0 (omega arith), drop-cons x (suc at) 0 (omega arith), add-one)
+
+-- two bytes compared one by one
+pub fcsAt-read : (x right : List ℕ) (at sum : ℕ) → at + 2 ≤ length x → sum ≡ checksumOf (take at x) → right ≡ fcsBytes sum
+    → (eqb (getD x at 0) (getD right 0 0) && eqb (getD x (at + 1) 0) (getD right 1 0)) ≡ fcsAt at x
+unfolding fcsAt
+fcsAt-read x right at sum h es er = rw (two x at h, er, es, and-true)
+
+sameBytes-refl : (s : List ℕ) → sameBytes s s ≡ true
+sameBytes-refl [] = refl
+sameBytes-refl (a ∷ s) = rw (eq-eqb a a refl) (sameBytes-refl s)
+
+pub fcsAt-sealed : (covered : List ℕ) → fcsAt (length covered) (sealed covered) ≡ true
+unfolding fcsAt sealed
+fcsAt-sealed covered =
+    rw (take-append-seam covered (fcsBytes (checksumOf covered)), drop-append-seam covered (fcsBytes (checksumOf covered)))
+    (sameBytes-refl (fcsBytes (checksumOf covered)))
+
+-- a whole frame within D passes step 1, and its FCTR and LEN are read back
+pub heard-framed : (d fctr : ℕ) (packet : List ℕ) → length packet + 5 ≤ d
+    → heard d (frameOf fctr packet) ≡ judged fctr (length packet) (length packet + 5)
+unfolding heard frameOf
+heard-framed d fctr packet h =
+    let covered : List ℕ = fctr ∷ (lenBytes (length packet) ++ packet) in
+    let size : length (sealed covered) ≡ length packet + 5 = frameOf-length fctr packet in
+    let seam : length (sealed covered) - 2 ≡ length covered = omega (arith, sealed-length covered) in
+    let read : length packet / 256 * 256 + length packet % 256 ≡ length packet = omega arith in
+    rw (le-ltb (length (sealed covered)) 5 (omega arith), le-ltb d (length (sealed covered)) (omega arith), seam, fcsAt-sealed covered, size)
+    (ap (λ (len : ℕ). judged fctr len (length packet + 5)) read)
+
+-- ---- steps 2 to 4
+
+judged-data : (number acknowledged len : ℕ) → number ≤ 3 → acknowledged ≤ 3 → 1 ≤ len
+    → judged (number * 4 + acknowledged) len (len + 5) ≡ Data number false acknowledged len
+unfolding judged used accepted
+judged-data number acknowledged len hn ha hl =
+    let fctr : ℕ = number * 4 + acknowledged in
+    let n : fctr / 4 % 4 ≡ number = omega arith in
+    let a : fctr % 4 ≡ acknowledged = omega arith in
+    rw (
+      le-leb 0 fctr (omega arith),
+      le-leb fctr 15 (omega arith),
+      lt-leb 128 fctr (omega arith),
+      ne-eqb len 0 (λ e. omega arith),
+      eq-eqb len (len + 5 - 5) (omega arith),
+      n,
+      a,
+      ne-eqb (fctr / 32 % 4) 1 (λ e. omega arith),
+    )
+
+-- what holds of the four numbers holds of each
+four : (P : ℕ → Type 0) → P 0 → P 1 → P 2 → P 3 → (k : ℕ) → k ≤ 3 → P k
+four P p0 p1 p2 p3 zero h = p0
+four P p0 p1 p2 p3 (suc zero) h = p1
+four P p0 p1 p2 p3 (suc (suc zero)) h = p2
+four P p0 p1 p2 p3 (suc (suc (suc zero))) h = p3
+four P p0 p1 p2 p3 (suc (suc (suc (suc k)))) h = absurd (omega arith)
+
+-- ---- the promises
+
+pub data-heard : DataHeard
+unfolding dataFrame
+data-heard d number acknowledged packet hn ha hl h =
+    heard-framed d (number * 4 + acknowledged) packet h ∙ judged-data number acknowledged (length packet) hn ha hl
+
+pub ack-heard : AckHeard
+unfolding ackFrame judged
+ack-heard d acknowledged ha h =
+    heard-framed d (0x80 + acknowledged) [] h
+    ∙ four (λ (k : ℕ). judged (0x80 + k) 0 5 ≡ Ack k) refl refl refl refl acknowledged ha
+
+pub nak-heard : NakHeard
+unfolding nakFrame judged
+nak-heard d acknowledged ha h =
+    heard-framed d (0xA0 + acknowledged) [] h
+    ∙ four (λ (k : ℕ). judged (0xA0 + k) 0 5 ≡ Nak k) refl refl refl refl acknowledged ha
+
+pub resetFrame-framed : resetFrame ≡ frameOf 0xC0 []
+unfolding frameOf checksumOf
+resetFrame-framed = refl
+
+pub reset-heard : ResetHeard
+unfolding judged
+reset-heard d h = rw resetFrame-framed (heard-framed d 0xC0 [] h)

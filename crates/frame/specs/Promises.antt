@@ -1,0 +1,26 @@
+-- What is promised of frames beyond the functions' own contracts; proofs/Heard.antt proves each.
+use Prim.Native.Nat.{ℕ, _+_, _≤_}
+use mathlib.Core.Bool.{false}
+use mathlib.Core.List.{List}
+use mathlib.Core.Path.{_≡_}
+use lib.ListN.{length}
+use Rattle.frame.specs.declared.Heard.the-variants.{Reset, Ack, Nak, Data}
+use Rattle.frame.specs.Bytes.{dataFrame, ackFrame, nakFrame, resetFrame}
+use Rattle.frame.specs.Steps.{heard}
+
+-- Hearing what was written gives back what was meant: for a data frame of every number and acknowledgement and a packet of 1 to D − 5 bytes ..
+abbrev pub DataHeard : Type 0
+DataHeard =
+    (d number acknowledged : ℕ) (packet : List ℕ) → number ≤ 3 → acknowledged ≤ 3 → 1 ≤ length packet → length packet + 5 ≤ d
+    → heard d (dataFrame number acknowledged packet) ≡ Data number false acknowledged (length packet)
+
+-- .. for a control ACK and a control NAK of every number ..
+abbrev pub AckHeard : Type 0
+AckHeard = (d acknowledged : ℕ) → acknowledged ≤ 3 → 5 ≤ d → heard d (ackFrame acknowledged) ≡ Ack acknowledged
+
+abbrev pub NakHeard : Type 0
+NakHeard = (d acknowledged : ℕ) → acknowledged ≤ 3 → 5 ≤ d → heard d (nakFrame acknowledged) ≡ Nak acknowledged
+
+-- .. and for the reset frame.
+abbrev pub ResetHeard : Type 0
+ResetHeard = (d : ℕ) → 5 ≤ d → heard d resetFrame ≡ Reset

@@ -1,0 +1,214 @@
+// A frame's bytes, heard and written. Only this crate knows the place of a byte and the order of FCS.
+use base::answer;
+use base::buffer;
+ghost use mathlib.Core.Path.{_≡_};
+ghost use mathlib.Core.List.{[], _∷_};
+ghost use Prim.Native.Nat.{_+_, _≤_, _<_};
+ghost use lib.ListN.{length, take};
+ghost use Rattle.base.specs.Buffer.{put};
+ghost use Rattle.frame.specs.Bytes.{lenBytes, fcsBytes, sealed, dataFrame, ackFrame, nakFrame, frameOf, resetFrame, Written};
+ghost use Rattle.frame.specs.Steps.{lenOf, fcsAt, used, accepted, judged, heard, refusalOf};
+
+// What steps 1 to 4 make of a received frame. Each refusal has a case of its own, also where two have one number.
+pub enum Heard {
+    Size,
+    Sum,
+    Code,
+    ControlSize,
+    Length,
+    Reset,
+    Ack(u8),
+    Nak(u8),
+    Data {
+        number: u8,
+        nak: bool,
+        acknowledged: u8,
+        length: u16,
+    },
+}
+
+fn fcs_bytes(sum: u16) -> [u8; 2]
+    ensures { λ r. ⌜ r ≡ fcsBytes sum ⌝ }
+{
+    [(sum % 256) as u8, (sum / 256) as u8]
+}
+
+// ---- hearing
+
+fn wide(byte: u8) -> usize
+    ensures { λ r. ⌜ (r ≡ byte) × (r < 256) ⌝ }
+{
+    byte as usize
+}
+
+fn len_of(frame: &[u8]) -> usize
+    requires { ⌜ 5 ≤ length (now frame) ⌝ }
+    ensures { λ r. ⌜ (r ≡ lenOf (now (frame .entry))) × (r < 65536) ⌝ }
+{
+    wide(frame[1]) * 256 + wide(frame[2])
+}
+
+fn fcs_at(frame: &[u8], at: usize) -> bool
+    requires { ⌜ at + 2 ≤ length (now frame) ⌝ }
+    ensures { λ r. ⌜ r ≡ fcsAt at (now (frame .entry)) ⌝ }
+{
+    let right = fcs_bytes(fcs::checksum(&frame[..at]));
+    (frame[at] == right[0]) & (frame[at + 1] == right[1])
+}
+
+fn is_used(fctr: u8) -> bool
+    ensures { λ r. ⌜ r ≡ used fctr ⌝ }
+{
+    (0x00 <= fctr) & (fctr <= 0x0F)
+        | (0x20 <= fctr) & (fctr <= 0x2F)
+        | (0x80 <= fctr) & (fctr <= 0x83)
+        | (0xA0 <= fctr) & (fctr <= 0xA3)
+        | (fctr == 0xC0)
+}
+
+fn accept(fctr: u8, len: usize) -> Heard
+    requires { ⌜ len < 65536 ⌝ }
+    ensures { λ r. ⌜ r ≡ accepted fctr len ⌝ }
+{
+    let sequence = fctr / 32 % 4;
+    let acknowledged = fctr % 4;
+    if fctr < 0x80 {
+        return Heard::Data {
+            number: fctr / 4 % 4,
+            nak: sequence == 1,
+            acknowledged,
+            length: len as u16,
+        };
+    }
+    if sequence == 2 {
+        return Heard::Reset;
+    }
+    if sequence == 1 {
+        return Heard::Nak(acknowledged);
+    }
+    Heard::Ack(acknowledged)
+}
+
+// Steps 2 to 4, of the frame's FCTR, its LEN and its size.
+fn judge(fctr: u8, len: usize, size: usize) -> Heard
+    requires { ⌜ (len < 65536) × (5 ≤ size) ⌝ }
+    ensures { λ r. ⌜ r ≡ judged fctr len size ⌝ }
+{
+    let control = 0x80 <= fctr;
+    let unused = !is_used(fctr);
+    let oversize = control & ((size != 5) | (len != 0));
+    let uneven = !control & ((len == 0) | (len != size - 5));
+    if unused {
+        return Heard::Code;
+    }
+    if oversize {
+        return Heard::ControlSize;
+    }
+    if uneven {
+        return Heard::Length;
+    }
+    accept(fctr, len)
+}
+
+// Steps 1 to 4. The checksum is not run over a frame longer than D.
+pub fn hear(d: u16, frame: &[u8]) -> Heard
+    ensures { λ r. ⌜ r ≡ heard d (now (frame .entry)) ⌝ }
+{
+    let size = frame.len();
+    if size < 5 {
+        return Heard::Size;
+    }
+    let at = size - 2;
+    let len = len_of(frame);
+    if (d as usize) < size {
+        return Heard::Size;
+    }
+    if fcs_at(frame, at) {
+        return judge(frame[0], len, size);
+    }
+    Heard::Sum
+}
+
+pub fn refusal(h: Heard) -> u8
+    ensures { λ r. ⌜ r ≡ refusalOf h ⌝ }
+{
+    match h {
+        Heard::Size => answer::BAD_FRAME,
+        Heard::Sum => answer::BAD_FRAME,
+        Heard::Code => answer::UNUSED_CODE,
+        Heard::ControlSize => answer::CONTROL_SIZE,
+        Heard::Length => answer::BAD_FRAME,
+        Heard::Reset => answer::DONE,
+        Heard::Ack(_) => answer::DONE,
+        Heard::Nak(_) => answer::DONE,
+        Heard::Data {
+            number: _,
+            nak: _,
+            acknowledged: _,
+            length: _,
+        } => answer::DONE,
+    }
+}
+
+// ---- writing
+
+fn put_head(frame: &mut [u8], fctr: u8, len: u16)
+    requires { ⌜ 3 ≤ length (now frame) ⌝ }
+    ensures { λ _. ⌜ now (frame .exit) ≡ put (now (frame .entry)) 0 (fctr ∷ lenBytes len) ⌝ }
+{
+    frame[0] = fctr;
+    frame[1] = (len / 256) as u8;
+    frame[2] = (len % 256) as u8;
+}
+
+// Puts FCS behind the bytes that it covers, and tells the frame's length.
+fn seal(frame: &mut [u8], covered: usize) -> u16
+    requires { ⌜ (covered + 2 ≤ length (now frame)) × (covered + 2 < 65536) ⌝ }
+    ensures { λ r. ⌜ Written (sealed (take covered (now (frame .entry)))) (now (frame .entry)) (now (frame .exit)) r ⌝ }
+{
+    let bytes = fcs_bytes(fcs::checksum(&frame[..covered]));
+    frame[covered] = bytes[0];
+    frame[covered + 1] = bytes[1];
+    (covered + 2) as u16
+}
+
+pub fn write_data(frame: &mut [u8], number: u8, acknowledged: u8, packet: &[u8]) -> u16
+    requires { ⌜ (number ≤ 3) × (acknowledged ≤ 3) ⌝ }
+    requires { ⌜ (length (now packet) + 5 ≤ length (now frame)) × (length (now packet) + 5 < 65536) ⌝ }
+    ensures { λ r. ⌜ Written (dataFrame number acknowledged (now (packet .entry))) (now (frame .entry)) (now (frame .exit)) r ⌝ }
+{
+    let len = packet.len();
+    put_head(frame, number * 4 + acknowledged, len as u16);
+    buffer::copy_at(frame, 3, packet);
+    seal(frame, 3 + len)
+}
+
+fn write_control(frame: &mut [u8], fctr: u8) -> u16
+    requires { ⌜ 5 ≤ length (now frame) ⌝ }
+    ensures { λ r. ⌜ Written (frameOf fctr []) (now (frame .entry)) (now (frame .exit)) r ⌝ }
+{
+    put_head(frame, fctr, 0);
+    seal(frame, 3)
+}
+
+pub fn write_ack(frame: &mut [u8], acknowledged: u8) -> u16
+    requires { ⌜ (acknowledged ≤ 3) × (5 ≤ length (now frame)) ⌝ }
+    ensures { λ r. ⌜ Written (ackFrame acknowledged) (now (frame .entry)) (now (frame .exit)) r ⌝ }
+{
+    write_control(frame, 0x80 + acknowledged)
+}
+
+pub fn write_nak(frame: &mut [u8], acknowledged: u8) -> u16
+    requires { ⌜ (acknowledged ≤ 3) × (5 ≤ length (now frame)) ⌝ }
+    ensures { λ r. ⌜ Written (nakFrame acknowledged) (now (frame .entry)) (now (frame .exit)) r ⌝ }
+{
+    write_control(frame, 0xA0 + acknowledged)
+}
+
+pub fn write_reset(frame: &mut [u8]) -> u16
+    requires { ⌜ 5 ≤ length (now frame) ⌝ }
+    ensures { λ r. ⌜ Written resetFrame (now (frame .entry)) (now (frame .exit)) r ⌝ }
+{
+    buffer::copy_at(frame, 0, b"\xC0\x00\x00\x9A\x0A");
+    5
+}
