@@ -1,5 +1,5 @@
 -- Document 01's examples, of the definitions, in one table. So far those of the checksum and of the frames' bytes.
-use mathlib.Core.List.{List, [], _∷_}
+use mathlib.Core.List.{[], _∷_}
 use mathlib.Core.Path.{_≡_}
 use Rattle.fcs.specs.Checksum.{checksumOf}
 use Rattle.frame.specs.Bytes.{sealed, dataFrame, ackFrame, nakFrame, resetFrame}

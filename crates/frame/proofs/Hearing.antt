@@ -1,19 +1,18 @@
 -- What hearing cites, and that what was written is heard. Assumes nothing.
-use mathlib.Core.Path.{_≡_, refl, sym, ap, _∙_}
-use mathlib.Core.Bool.{Bool, true, false, _&&_, and-true}
+use mathlib.Core.Path.{_≡_, refl, ap, _∙_}
+use mathlib.Core.Bool.{true, false, _&&_, and-true}
 use mathlib.Core.List.{List, [], _∷_, _++_}
-use Prim.Native.Nat.{ℕ, zero, suc, _+_, _-_, _*_, _/_, _%_, _<_, _≤_}
-use native.Mathlib.Nat.{le-refl}
+use Prim.Native.Nat.{ℕ, zero, suc, _+_, _-_, _*_, _/_, _%_, _≤_}
 use native.Mathlib.Numerals.{add-one}
 use native.Mathlib.Omega.{arith}
 use borrow.Author.Tests.{le-ltb, le-leb, lt-leb, eq-eqb, ne-eqb}
-use lib.ListN.{length, take, drop, getD, length-append}
+use lib.ListN.{length, take, drop, getD}
 use lib.Seq.{drop-cons, take-append-seam, drop-append-seam}
-use lib.Dec.{eqb, leb}
+use lib.Dec.{eqb}
 use Rattle.fcs.specs.Checksum.{checksumOf}
 use Rattle.frame.specs.declared.Heard.the-variants.{Ack, Nak, Data}
-use Rattle.frame.specs.Bytes.{lenBytes, fcsBytes, sealed, frameOf, dataFrame, ackFrame, nakFrame, resetFrame}
-use Rattle.frame.specs.Steps.{sameBytes, fcsAt, used, accepted, judged, heard, lenOf, isControl}
+use Rattle.frame.specs.Bytes.{lenBytes, fcsBytes, sealed, frameOf, resetFrame}
+use Rattle.frame.specs.Steps.{sameBytes, fcsAt, used, accepted, judged, heard}
 use Rattle.frame.specs.Promises.{DataHeard, AckHeard, NakHeard, ResetHeard}
 use Rattle.frame.proofs.Writing.{sealed-length, frameOf-length}
 
@@ -81,18 +80,17 @@ four P p0 p1 p2 p3 (suc (suc (suc (suc k)))) h = absurd (omega arith)
 -- ---- the promises
 
 pub data-heard : DataHeard
-unfolding dataFrame
 data-heard d number acknowledged packet hn ha hl h =
     heard-framed d (number * 4 + acknowledged) packet h ∙ judged-data number acknowledged (length packet) hn ha hl
 
 pub ack-heard : AckHeard
-unfolding ackFrame judged
+unfolding judged
 ack-heard d acknowledged ha h =
     heard-framed d (0x80 + acknowledged) [] h
     ∙ four (λ (k : ℕ). judged (0x80 + k) 0 5 ≡ Ack k) refl refl refl refl acknowledged ha
 
 pub nak-heard : NakHeard
-unfolding nakFrame judged
+unfolding judged
 nak-heard d acknowledged ha h =
     heard-framed d (0xA0 + acknowledged) [] h
     ∙ four (λ (k : ℕ). judged (0xA0 + k) 0 5 ≡ Nak k) refl refl refl refl acknowledged ha

@@ -26,16 +26,13 @@ frameOf fctr packet = sealed (fctr ∷ (lenBytes (length packet) ++ packet))
 
 -- "FCTR: bit 7 control; bits 6:5 are 00 ACK, 01 NAK, 10 reset; bit 4 zero; bits 3:2 frame number; bits 1:0 the acknowledged number."
 -- "Each data frame, also a repeated one, carries ACK for the last correct number"
-unfoldable pub dataFrame : ℕ → ℕ → List ℕ → List ℕ
-unfolding frameOf
+abbrev pub dataFrame : ℕ → ℕ → List ℕ → List ℕ
 dataFrame number acknowledged packet = frameOf (number * 4 + acknowledged) packet
 
-unfoldable pub ackFrame : ℕ → List ℕ
-unfolding frameOf
+abbrev pub ackFrame : ℕ → List ℕ
 ackFrame acknowledged = frameOf (0x80 + acknowledged) []
 
-unfoldable pub nakFrame : ℕ → List ℕ
-unfolding frameOf
+abbrev pub nakFrame : ℕ → List ℕ
 nakFrame acknowledged = frameOf (0xA0 + acknowledged) []
 
 -- "the reset frame, C0 00 00 9A 0A"
