@@ -1,0 +1,263 @@
+//! Counts what a script makes happen, so that a generator that misses something shows.
+
+use std::collections::BTreeMap;
+use std::io::{self, BufRead, Write};
+
+use crate::answer;
+use crate::frame::{hear, Data, Heard, OVERHEAD};
+use crate::link::{elapsed, Outcome, State};
+use crate::script::{read, Command, Lines, Reading, Rig, Said};
+
+/// The answers that document 01 gives to each call.
+const ANSWERS: [(&str, &[u8]); 8] = [
+    ("start", &[0, 1, 2]),
+    ("submit", &[0, 1, 2, 3, 4, 5]),
+    ("take", &[0, 1, 2, 3, 6, 7, 8, 9]),
+    ("look", &[0, 1, 2, 3]),
+    ("acknowledge", &[0, 1, 2, 3]),
+    ("resynchronise", &[0, 1, 2]),
+    ("cut", &[0, 1, 2, 13, 16]),
+    ("join", &[0, 1, 2, 4, 10, 11, 12, 14, 15]),
+];
+
+const EVENTS: [&str; 24] = [
+    "bad-line",
+    "take-repeat",
+    "take-9-with-repeat",
+    "take-9-stops-timer",
+    "take-delivered-with-repeat",
+    "delivery-clears-nak",
+    "delivery-keeps-timer",
+    "nak-sent",
+    "nak-suppressed",
+    "nak-exhausted",
+    "ack-frees-two",
+    "ack-frees-none",
+    "reset-drops",
+    "resynchronise-lost",
+    "submit-4-when-full",
+    "look-repeats-oldest",
+    "look-repeats-newer",
+    "look-acks",
+    "look-loses",
+    "look-loses-over-newer",
+    "wrapped-clock-due",
+    "backward-clock-due",
+    "join-message",
+    "join-fault-07",
+];
+
+/// An elapsed time below this, with a clock below its start, is taken for a wrap;
+/// above, for a clock that went back.
+const HALF: u32 = 1 << 31;
+
+#[derive(Debug)]
+pub struct Tally {
+    answers: BTreeMap<(&'static str, u8), u64>,
+    events: BTreeMap<&'static str, u64>,
+}
+
+impl Default for Tally {
+    fn default() -> Tally {
+        let answers = ANSWERS
+            .iter()
+            .flat_map(|&(call, answers)| answers.iter().map(move |&answer| ((call, answer), 0)));
+        Tally {
+            answers: answers.collect(),
+            events: EVENTS.iter().map(|&event| (event, 0)).collect(),
+        }
+    }
+}
+
+/// Replays a script silently.
+pub fn count<R: BufRead>(input: R) -> io::Result<Tally> {
+    let mut lines = Lines::new(input);
+    let mut rig = Rig::default();
+    let mut scratch = Vec::new();
+    let mut tally = Tally::default();
+    while let Some(line) = lines.next()? {
+        match read(&line, &mut scratch) {
+            Reading::Silent => {}
+            Reading::Bad => tally.event("bad-line", true),
+            Reading::Do(command) => {
+                let before = rig.state;
+                let said = rig.execute(&command);
+                tally.note(&before, &command, &said);
+            }
+        }
+    }
+    Ok(tally)
+}
+
+impl Tally {
+    /// `CALL ANSWER COUNT` lines, then `event NAME COUNT` lines, both sorted.
+    pub fn print<W: Write>(&self, out: &mut W) -> io::Result<()> {
+        for ((call, answer), count) in &self.answers {
+            writeln!(out, "{call} {answer} {count}")?;
+        }
+        for (event, count) in &self.events {
+            writeln!(out, "event {event} {count}")?;
+        }
+        out.flush()
+    }
+
+    pub fn calls(&self) -> u64 {
+        self.answers.values().sum()
+    }
+
+    /// What never occurred, and answers that document 01 never gives to their call.
+    pub fn faults(&self) -> Vec<String> {
+        let given = |call: &str, answer: u8| {
+            ANSWERS
+                .iter()
+                .any(|&(name, answers)| name == call && answers.contains(&answer))
+        };
+        let never = |name: String| format!("never: {name}");
+        let answers = self.answers.iter().filter_map(|(&(call, answer), &count)| {
+            match (given(call, answer), count) {
+                (true, 0) => Some(never(format!("{call} {answer}"))),
+                (true, _) => None,
+                (false, _) => Some(format!("not of document 01: {call} {answer}")),
+            }
+        });
+        let events = self.events.iter().filter(|(_, &count)| count == 0);
+        answers
+            .chain(events.map(|(event, _)| never(format!("event {event}"))))
+            .collect()
+    }
+
+    fn event(&mut self, name: &'static str, occurred: bool) {
+        if occurred {
+            *self.events.entry(name).or_default() += 1;
+        }
+    }
+
+    fn note(&mut self, before: &State, command: &Command<'_>, said: &Said) {
+        let number = match said {
+            Said::Nothing => return,
+            Said::Link(outcome) => outcome.answer,
+            Said::Join(joined) => joined.answer,
+            Said::Cut(piece) => piece.answer,
+        };
+        if let Some(call) = command.call() {
+            *self.answers.entry((call, number)).or_default() += 1;
+        }
+        match (*command, said) {
+            (Command::Take { frame, .. }, Said::Link(outcome)) => {
+                self.note_take(before, frame, outcome);
+            }
+            (Command::Look { ms }, Said::Link(outcome)) => self.note_look(before, ms, outcome),
+            (Command::Submit { .. }, Said::Link(outcome)) => {
+                let full = before.waiting >= before.settings.window;
+                let refused = outcome.answer == answer::PACKET_SIZE;
+                self.event("submit-4-when-full", refused && full);
+            }
+            (Command::Resynchronise { .. }, Said::Link(outcome)) => {
+                let done = outcome.answer == answer::DONE;
+                self.event("resynchronise-lost", done && before.lost);
+            }
+            (_, Said::Join(joined)) => {
+                self.event("join-message", joined.length > 0);
+                self.event("join-fault-07", joined.fault == 7);
+            }
+            _ => {}
+        }
+    }
+
+    fn note_take(&mut self, before: &State, frame: &[u8], outcome: &Outcome) {
+        let sent = outcome.sent > 0;
+        match outcome.answer {
+            answer::DAMAGED | answer::UNUSED_CODE => {
+                self.event("nak-sent", sent);
+                self.event("nak-suppressed", !sent);
+            }
+            answer::DONE | answer::NOT_EXPECTED => {
+                self.note_heard(before, frame, outcome);
+            }
+            _ => {}
+        }
+    }
+
+    fn note_heard(&mut self, before: &State, frame: &[u8], outcome: &Outcome) {
+        let sent = outcome.sent > 0;
+        match hear(frame, before.settings.data_reg_len) {
+            Heard::Reset => self.event("reset-drops", outcome.dropped > 0),
+            Heard::Ack(_) => self.note_ack(before, outcome),
+            Heard::Nak(k) => {
+                self.event("take-repeat", sent);
+                self.event("nak-exhausted", before.waits(k) && before.exhausted(k));
+            }
+            Heard::Data(data) => self.note_data(before, data, outcome),
+            _ => {}
+        }
+    }
+
+    fn note_ack(&mut self, before: &State, outcome: &Outcome) {
+        let freed = before.waiting.saturating_sub(outcome.state.waiting);
+        self.event("ack-frees-two", freed == 2);
+        self.event("ack-frees-none", before.waiting > 0 && freed == 0);
+    }
+
+    fn note_data(&mut self, before: &State, data: Data, outcome: &Outcome) {
+        let repeated = outcome.sent > OVERHEAD;
+        let delivered = outcome.delivered > 0;
+        if !data.nak {
+            self.note_ack(before, outcome);
+        }
+        self.event("take-9-with-repeat", !delivered && repeated);
+        self.event(
+            "take-9-stops-timer",
+            !delivered && !repeated && before.acking,
+        );
+        self.event("take-delivered-with-repeat", delivered && repeated);
+        self.event("delivery-clears-nak", delivered && before.nak_mark);
+        self.event(
+            "delivery-keeps-timer",
+            delivered && !repeated && before.acking,
+        );
+    }
+
+    fn note_look(&mut self, before: &State, now: u32, outcome: &Outcome) {
+        if before.lost {
+            return;
+        }
+        if outcome.answer == answer::LINK_LOST {
+            self.event("look-loses", true);
+            self.event("look-loses-over-newer", loses_over_newer(before, now));
+        }
+        if outcome.sent == 0 {
+            return;
+        }
+        let mut numbers = before.waiting_numbers();
+        let changed = |&number: &u8| {
+            let slot = before.slot(number);
+            before.repeated[slot] != outcome.state.repeated[slot]
+        };
+        let start = match numbers.find(changed) {
+            Some(number) => {
+                let oldest = number == before.oldest();
+                self.event("look-repeats-oldest", oldest);
+                self.event("look-repeats-newer", !oldest);
+                before.started[before.slot(number)]
+            }
+            None => {
+                self.event("look-acks", true);
+                before.acknowledge_start
+            }
+        };
+        let wrapped = elapsed(start, now) < HALF;
+        self.event("wrapped-clock-due", now < start && wrapped);
+        self.event("backward-clock-due", now < start && !wrapped);
+    }
+}
+
+/// The oldest loses the link although the newer is due and could be repeated.
+fn loses_over_newer(before: &State, now: u32) -> bool {
+    let timeout = u32::from(before.settings.transmit_timeout);
+    let newer = before.waiting_numbers().nth(1);
+    newer.is_some_and(|number| {
+        let due = elapsed(before.started[before.slot(number)], now) >= timeout;
+        let older_due = elapsed(before.started[before.slot(before.oldest())], now) >= timeout;
+        due && older_due && !before.exhausted(number)
+    })
+}

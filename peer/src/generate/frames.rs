@@ -1,0 +1,190 @@
+//! Frames made for a given state: right ones, and every kind of wrong one.
+
+use crate::frame;
+use crate::link::State;
+use crate::random::Random;
+
+/// Any frame, chosen so that what it says often concerns what waits.
+pub fn any_frame(random: &mut Random, state: &State) -> Vec<u8> {
+    match random.below(100) {
+        0..=11 => control(0x80 | number(random, state)),
+        12..=27 => control(0xA0 | number(random, state)),
+        28..=31 => control(0xC0),
+        32..=51 => data(random, state, 0x00),
+        52..=67 => data(random, state, 0x20),
+        68..=73 => wrong_sum(random, state),
+        74..=79 => unused_code(random, state),
+        80..=86 => wrong_control(random),
+        87..=93 => wrong_length(random, state),
+        _ => wrong_size(random, state),
+    }
+}
+
+/// A frame with bytes changed, lost or added. A zero added leaves the sum right, since
+/// it starts at 0, so that later steps have to refuse the frame.
+pub fn damaged(random: &mut Random, frame: &[u8]) -> Vec<u8> {
+    let mut frame = frame.to_vec();
+    match random.below(9) {
+        0 => frame.truncate(random.index(frame.len())),
+        1 => frame.push(random.word() as u8),
+        2 => frame.push(0),
+        3 => swap_sum(&mut frame),
+        _ => flip(random, &mut frame),
+    }
+    frame
+}
+
+/// FCS high byte first, as the other fields are.
+fn swap_sum(frame: &mut [u8]) {
+    if let Some(sum) = frame.last_chunk_mut::<2>() {
+        sum.swap(0, 1);
+    }
+}
+
+fn flip(random: &mut Random, frame: &mut [u8]) {
+    let place = random.index(frame.len());
+    if let Some(byte) = frame.get_mut(place) {
+        *byte ^= 1 << random.below(8);
+    }
+}
+
+/// A right checksum behind any bytes.
+fn sealed(mut bytes: Vec<u8>) -> Vec<u8> {
+    let sum = crate::checksum::checksum(&bytes);
+    bytes.extend_from_slice(&sum.to_le_bytes());
+    bytes
+}
+
+fn with_length(fctr: u8, length: u16, body: &[u8]) -> Vec<u8> {
+    let [high, low] = length.to_be_bytes();
+    let mut bytes = vec![fctr, high, low];
+    bytes.extend_from_slice(body);
+    sealed(bytes)
+}
+
+fn control(fctr: u8) -> Vec<u8> {
+    with_length(fctr, 0, &[])
+}
+
+/// Mostly one that waits.
+fn number(random: &mut Random, state: &State) -> u8 {
+    let waiting = state.waiting.min(2);
+    if waiting > 0 && random.percent(70) {
+        let place = random.u8_between(0, waiting - 1);
+        return state.oldest().wrapping_add(place) & 3;
+    }
+    random.u8_between(0, 3)
+}
+
+/// States that are not well-formed may have any D; frames are made for one in range.
+fn size_limit(state: &State) -> u16 {
+    state.settings.data_reg_len.clamp(16, 1024)
+}
+
+fn body(random: &mut Random, state: &State) -> Vec<u8> {
+    let limit = size_limit(state) - frame::OVERHEAD;
+    let length = match random.below(12) {
+        0 => limit,
+        1 => limit - 1,
+        2 => 1,
+        _ => random.u16_between(1, 6),
+    };
+    random.bytes(length.into())
+}
+
+fn data(random: &mut Random, state: &State, kind: u8) -> Vec<u8> {
+    let own = match random.below(10) {
+        0..=5 => state.expected & 3,
+        6..=7 => state.last_correct(),
+        _ => random.u8_between(0, 3),
+    };
+    let fctr = kind | own << 2 | number(random, state);
+    let body = body(random, state);
+    with_length(fctr, body.len() as u16, &body)
+}
+
+fn wrong_sum(random: &mut Random, state: &State) -> Vec<u8> {
+    let right = match random.below(3) {
+        0 => control(random.pick([0x80, 0xA0, 0xC0]) | number(random, state)),
+        _ => data(random, state, 0x00),
+    };
+    damaged(random, &right)
+}
+
+fn used(fctr: u8) -> bool {
+    matches!(fctr, 0x00..=0x0F | 0x20..=0x2F | 0x80..=0x83 | 0xA0..=0xA3 | 0xC0)
+}
+
+/// With the size of a control frame, of a data frame, and with any.
+fn unused_code(random: &mut Random, state: &State) -> Vec<u8> {
+    let mut fctr = match random.below(4) {
+        0 => 0xC1,
+        1 => (state.expected & 3) << 2 | 0x10,
+        _ => random.word() as u8,
+    };
+    while used(fctr) {
+        fctr = fctr.wrapping_add(0x11);
+    }
+    match random.below(3) {
+        0 => control(fctr),
+        1 => with_length(fctr, 1, &[0]),
+        _ => {
+            let body = body(random, state);
+            with_length(fctr, random.word() as u16, &body)
+        }
+    }
+}
+
+/// Step 3: a size that is not 5, a LEN that is not 0, or both.
+fn wrong_control(random: &mut Random) -> Vec<u8> {
+    let fctr = match random.below(9) {
+        8 => 0xC0,
+        other => (other as u8 & 3) | if other < 4 { 0x80 } else { 0xA0 },
+    };
+    match random.below(5) {
+        0 => with_length(fctr, 0, &[0]),
+        1 => with_length(fctr, 1, &[0]),
+        2 => with_length(fctr, 1, &[]),
+        3 => with_length(fctr, 0x0100, &[]),
+        _ => with_length(fctr, random.word() as u16 | 1, &[1, 2]),
+    }
+}
+
+/// Step 4: LEN 0, or wrong in its low or its high byte.
+fn wrong_length(random: &mut Random, state: &State) -> Vec<u8> {
+    let fctr = random.pick([0x00, 0x20]) | (state.expected & 3) << 2 | number(random, state);
+    let body = body(random, state);
+    let length = body.len() as u16;
+    match random.below(6) {
+        0 => control(fctr),
+        1 => with_length(fctr, 0, &body),
+        2 => with_length(fctr, length + 1, &body),
+        3 => with_length(fctr, length - 1, &body),
+        4 => with_length(fctr, length ^ 0x0100, &body),
+        _ => with_length(fctr, 1, &[]),
+    }
+}
+
+/// Step 1 about its bounds: 0 to 4, and one over D with all else right; now and then
+/// as much as a line can hold.
+fn wrong_size(random: &mut Random, state: &State) -> Vec<u8> {
+    let limit = usize::from(size_limit(state));
+    if random.below(100) == 0 {
+        return vec![0; 8192];
+    }
+    match random.below(6) {
+        0 => Vec::new(),
+        1 => random.bytes(4),
+        2 => sealed(random.bytes(2)),
+        3 => vec![0; 5],
+        4 => {
+            let length = random.index(5);
+            random.bytes(length)
+        }
+        _ => {
+            let fctr = (state.expected & 3) << 2 | number(random, state);
+            let body = random.bytes(limit - 4);
+            with_length(fctr, body.len() as u16, &body)
+        }
+    }
+}

@@ -1,0 +1,58 @@
+//! The rig's script format: lines in, calls made, lines out.
+
+mod command;
+mod lines;
+mod print;
+mod rig;
+
+pub use command::{parse, write, Command};
+pub use lines::{Line, Lines, LINE_LIMIT};
+pub use print::print;
+pub use rig::{Rig, Said};
+
+use std::io::{self, BufRead, Write};
+
+/// What one line asks for.
+#[derive(Debug, PartialEq, Eq)]
+pub enum Reading<'a> {
+    /// a blank line or a comment
+    Silent,
+    Bad,
+    Do(Command<'a>),
+}
+
+/// The scratch buffer holds the line's byte field.
+pub fn read<'a>(line: &Line<'_>, scratch: &'a mut Vec<u8>) -> Reading<'a> {
+    let text = match line {
+        Line::Whole([] | [b'#', ..]) => return Reading::Silent,
+        Line::Whole(text) => text,
+        Line::OverLong => return Reading::Bad,
+    };
+    match parse(text, scratch) {
+        Some(command) => Reading::Do(command),
+        None => Reading::Bad,
+    }
+}
+
+/// Reads a script and prints what the rig prints.
+pub fn replay<R: BufRead, W: Write>(input: R, output: &mut W) -> io::Result<()> {
+    let mut lines = Lines::new(input);
+    let mut rig = Rig::default();
+    let mut scratch = Vec::new();
+    let mut text = Vec::new();
+    let mut number: u64 = 0;
+    while let Some(line) = lines.next()? {
+        number = number.saturating_add(1);
+        text.clear();
+        match read(&line, &mut scratch) {
+            Reading::Silent => {}
+            Reading::Bad => writeln!(text, "bad line {number}")?,
+            Reading::Do(command) => {
+                let said = rig.execute(&command);
+                print(&rig, &said, &mut text);
+            }
+        }
+        output.write_all(&text)?;
+    }
+    output.flush()
+}
