@@ -1,2 +1,3 @@
 pub mod Answer
+pub mod Range
 pub mod Buffer

@@ -5,6 +5,7 @@ use mathlib.Core.List.{List, [], _∷_}
 use lib.ListN.{length, take, drop, getD}
 use lib.Dec.{eqb, leb, ltb}
 use Rattle.fcs.specs.Checksum.{checksumOf}
+use Rattle.base.specs.Range.{within}
 use Rattle.base.specs.Answer.{done, badFrame, unusedCode, controlSize}
 use Rattle.frame.specs.declared.Heard.{Heard}
 use Rattle.frame.specs.declared.Heard.the-variants.{Size, Sum, Code, ControlSize, Length, Reset, Ack, Nak, Data}
@@ -48,9 +49,6 @@ numberOf fctr = fctr / 4 % 4
 
 abbrev pub acknowledgedOf : ℕ → ℕ
 acknowledgedOf fctr = fctr % 4
-
-abbrev pub within : ℕ → ℕ → ℕ → Bool
-within low x high = leb low x && leb x high
 
 -- "Used codes are those of Table 8-1: 0x00–0x0F, 0x20–0x2F, 0x80–0x83, 0xA0–0xA3, 0xC0."
 unfoldable pub used : ℕ → Bool

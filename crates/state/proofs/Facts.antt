@@ -1,0 +1,198 @@
+-- The tests of the state as plain facts, and back. Assumes nothing.
+use mathlib.Core.Path.{_≡_, refl, sym}
+use mathlib.Core.Bool.{Bool, true, false, cond, _&&_, _||_}
+use Prim.Native.Nat.{ℕ, zero, suc, _+_, _-_, _*_, _<_, _≤_}
+use native.Mathlib.Nat.{mod-lt, mul-le-mul-right, suc-mul}
+use native.Mathlib.Omega.{arith}
+use borrow.Author.Tests.{leb-true, ltb-true, ltb-false, leb-false, le-leb, lt-ltb, le-ltb, eq-eqb, ne-eqb}
+use lib.ListN.{getD}
+use lib.Dec.{leb, ltb, eqb}
+use Rattle.base.specs.Range.{within}
+use Rattle.base.specs.Answer.{done, outOfRange, shortBuffer, linkLost}
+use Rattle.base.proofs.Tests.{and-left, and-right, or-right, or-left-false, or-right-false, within-low, within-high, passed, spared, firstOf-left, firstOf-right}
+use Rattle.state.specs.declared.Settings.{Settings}
+use Rattle.state.specs.declared.Link.{Link}
+use Rattle.state.specs.Bounds.{limitOf, inRange, slotsNeed, frameNeed}
+use Rattle.state.specs.State.{sentBefore, slotOf, lengthOf, lengthOk, numbersOk, wellFormed}
+use Rattle.state.specs.Gate.{entryOf, gateOf}
+use Rattle.state.specs.Timer.{elapsed, due}
+use Rattle.state.specs.Formed.{InRange, Length, Formed, Entered, Open}
+
+-- ---- settings
+
+pub inRange-facts : (s : Settings) → inRange s ≡ true → InRange s
+unfolding inRange
+inRange-facts s e =
+    let d = within 16 (s .d) 1024 in
+    let w = within 1 (s .window) 2 in
+    let t = within 2 (s .transmit) 1000 in
+    let a = leb 1 (s .acknowledge) && ltb (s .acknowledge) (s .transmit) in
+    let r = within 1 (s .repeats) 4 in
+    let e4 : (d && w && t && a) ≡ true = and-left (d && w && t && a) r e in
+    let e3 : (d && w && t) ≡ true = and-left (d && w && t) a e4 in
+    let e2 : (d && w) ≡ true = and-left (d && w) t e3 in
+    let ea : a ≡ true = and-right (d && w && t) a e4 in
+    record {
+      d-lo = within-low 16 (s .d) 1024 (and-left d w e2);
+      d-hi = within-high 16 (s .d) 1024 (and-left d w e2);
+      window-lo = within-low 1 (s .window) 2 (and-right d w e2);
+      window-hi = within-high 1 (s .window) 2 (and-right d w e2);
+      transmit-lo = within-low 2 (s .transmit) 1000 (and-right (d && w) t e3);
+      transmit-hi = within-high 2 (s .transmit) 1000 (and-right (d && w) t e3);
+      acknowledge-lo = leb-true 1 (s .acknowledge) (and-left (leb 1 (s .acknowledge)) (ltb (s .acknowledge) (s .transmit)) ea);
+      acknowledge-hi = ltb-true (s .acknowledge) (s .transmit) (and-right (leb 1 (s .acknowledge)) (ltb (s .acknowledge) (s .transmit)) ea);
+      repeats-lo = within-low 1 (s .repeats) 4 (and-right (d && w && t && a) r e);
+      repeats-hi = within-high 1 (s .repeats) 4 (and-right (d && w && t && a) r e);
+    }
+
+pub facts-inRange : (s : Settings) → InRange s → inRange s ≡ true
+unfolding inRange
+facts-inRange s f =
+    rw (
+      le-leb 16 (s .d) (f .d-lo),
+      le-leb (s .d) 1024 (f .d-hi),
+      le-leb 1 (s .window) (f .window-lo),
+      le-leb (s .window) 2 (f .window-hi),
+      le-leb 2 (s .transmit) (f .transmit-lo),
+      le-leb (s .transmit) 1000 (f .transmit-hi),
+      le-leb 1 (s .acknowledge) (f .acknowledge-lo),
+      lt-ltb (s .acknowledge) (s .transmit) (f .acknowledge-hi),
+      le-leb 1 (s .repeats) (f .repeats-lo),
+      le-leb (s .repeats) 4 (f .repeats-hi),
+    )
+
+-- ---- slots
+
+pub slotOf-lt : (l : Link) (number : ℕ) → 1 ≤ l .settings .window → slotOf l number < l .settings .window
+slotOf-lt l number h = mod-lt number h
+
+-- a slot's part lies in the slot buffer, for any window and packet limit
+pub part-inside : (slot window m length slots : ℕ) → slot < window → length ≤ m → window * m ≤ slots → slot * m + length ≤ slots
+part-inside slot window m length slots h l r = omega (arith, mul-le-mul-right m h, suc-mul slot m)
+
+-- ---- well formed
+
+length-facts : (l : Link) (n : ℕ) → lengthOk l (sentBefore l n) ≡ true → Length l n
+length-facts l n e =
+    let k : ℕ = sentBefore l n in
+    record { least = within-low 1 (lengthOf l k) (limitOf (l .settings)) e; most = within-high 1 (lengthOf l k) (limitOf (l .settings)) e }
+
+facts-length : (l : Link) (n : ℕ) → Length l n → lengthOk l (sentBefore l n) ≡ true
+facts-length l n f = rw (le-leb 1 (lengthOf l (sentBefore l n)) (f .least), le-leb (lengthOf l (sentBefore l n)) (limitOf (l .settings)) (f .most))
+
+-- the clauses of `numbersOk`, each by itself
+record Numbers (l : Link) : Type 0 where
+  next : leb (l .next) 3 ≡ true
+  expected : leb (l .expected) 3 ≡ true
+  waiting : leb (l .waiting) (l .settings .window) ≡ true
+  newest : (ltb (l .waiting) 1 || lengthOk l (sentBefore l 0)) ≡ true
+  older : (ltb (l .waiting) 2 || lengthOk l (sentBefore l 1)) ≡ true
+  count0 : leb (getD (l .counts) 0 0) (l .settings .repeats) ≡ true
+  count1 : leb (getD (l .counts) 1 0) (l .settings .repeats) ≡ true
+
+numbers : (l : Link) → numbersOk l ≡ true → Numbers l
+unfolding numbersOk
+numbers l e =
+    let n = leb (l .next) 3 in
+    let x = leb (l .expected) 3 in
+    let w = leb (l .waiting) (l .settings .window) in
+    let a = ltb (l .waiting) 1 || lengthOk l (sentBefore l 0) in
+    let b = ltb (l .waiting) 2 || lengthOk l (sentBefore l 1) in
+    let c = leb (getD (l .counts) 0 0) (l .settings .repeats) in
+    let d = leb (getD (l .counts) 1 0) (l .settings .repeats) in
+    let e6 : (n && x && w && a && b && c) ≡ true = and-left (n && x && w && a && b && c) d e in
+    let e5 : (n && x && w && a && b) ≡ true = and-left (n && x && w && a && b) c e6 in
+    let e4 : (n && x && w && a) ≡ true = and-left (n && x && w && a) b e5 in
+    let e3 : (n && x && w) ≡ true = and-left (n && x && w) a e4 in
+    let e2 : (n && x) ≡ true = and-left (n && x) w e3 in
+    record {
+      next = and-left n x e2;
+      expected = and-right n x e2;
+      waiting = and-right (n && x) w e3;
+      newest = and-right (n && x && w) a e4;
+      older = and-right (n && x && w && a) b e5;
+      count0 = and-right (n && x && w && a && b) c e6;
+      count1 = and-right (n && x && w && a && b && c) d e;
+    }
+
+-- what waits in a window of at most two is the newest or the one before
+waiting-lengths : (l : Link) → Numbers l → l .settings .window ≤ 2 → (n : ℕ) → n < l .waiting → Length l n
+waiting-lengths l f h zero w = length-facts l 0 (or-right (ltb (l .waiting) 1) _ (f .newest) (le-ltb (l .waiting) 1 w))
+waiting-lengths l f h (suc zero) w = length-facts l 1 (or-right (ltb (l .waiting) 2) _ (f .older) (le-ltb (l .waiting) 2 w))
+waiting-lengths l f h (suc (suc n)) w = absurd (omega (arith, leb-true (l .waiting) (l .settings .window) (f .waiting)))
+
+both-counts : (l : Link) → Numbers l → (i : ℕ) → i < 2 → getD (l .counts) i 0 ≤ l .settings .repeats
+both-counts l f zero h = leb-true (getD (l .counts) 0 0) (l .settings .repeats) (f .count0)
+both-counts l f (suc zero) h = leb-true (getD (l .counts) 1 0) (l .settings .repeats) (f .count1)
+both-counts l f (suc (suc i)) h = absurd (omega arith)
+
+pub wellFormed-facts : (l : Link) → wellFormed l ≡ true → Formed l
+unfolding wellFormed
+wellFormed-facts l e =
+    let s : InRange (l .settings) = inRange-facts (l .settings) (and-left (inRange (l .settings)) (numbersOk l) e) in
+    let f : Numbers l = numbers l (and-right (inRange (l .settings)) (numbersOk l) e) in
+    record {
+      settings = s;
+      next = leb-true (l .next) 3 (f .next);
+      expected = leb-true (l .expected) 3 (f .expected);
+      waiting = leb-true (l .waiting) (l .settings .window) (f .waiting);
+      lengths = waiting-lengths l f (s .window-hi);
+      counts = both-counts l f;
+    }
+
+unless-fewer : (l : Link) (n : ℕ) → ((n < l .waiting) → Length l n) → (ltb (l .waiting) (suc n) || lengthOk l (sentBefore l n)) ≡ true
+unless-fewer l n f = go (ltb (l .waiting) (suc n)) refl
+  where
+    go : (t : Bool) → ltb (l .waiting) (suc n) ≡ t → (t || lengthOk l (sentBefore l n)) ≡ true
+    go true e = refl
+    go false e = facts-length l n (f (ltb-false (l .waiting) (suc n) e))
+
+pub facts-wellFormed : (l : Link) → Formed l → wellFormed l ≡ true
+unfolding wellFormed numbersOk
+facts-wellFormed l f =
+    rw (
+      facts-inRange (l .settings) (f .settings),
+      le-leb (l .next) 3 (f .next),
+      le-leb (l .expected) 3 (f .expected),
+      le-leb (l .waiting) (l .settings .window) (f .waiting),
+      unless-fewer l 0 (f .lengths 0),
+      unless-fewer l 1 (f .lengths 1),
+      le-leb (getD (l .counts) 0 0) (l .settings .repeats) (f .counts 0 (omega arith)),
+      le-leb (getD (l .counts) 1 0) (l .settings .repeats) (f .counts 1 (omega arith)),
+    )
+
+-- ---- the gate
+
+pub entryOf-facts : (l : Link) (slots frame : ℕ) → entryOf l slots frame ≡ done → Entered l slots frame
+unfolding entryOf
+entryOf-facts l slots frame e =
+    let short = ltb slots (slotsNeed (l .settings)) || ltb frame (frameNeed (l .settings)) in
+    let one : ℕ = cond (wellFormed l) done outOfRange in
+    let two : ℕ = cond short shortBuffer done in
+    let enough : short ≡ false = spared short shortBuffer (omega arith) (firstOf-right one two e) in
+    record {
+      formed = wellFormed-facts l (passed (wellFormed l) outOfRange (omega arith) (firstOf-left one two e));
+      slots-room = ltb-false slots (slotsNeed (l .settings)) (or-left-false (ltb slots (slotsNeed (l .settings))) (ltb frame (frameNeed (l .settings))) enough);
+      frame-room = ltb-false frame (frameNeed (l .settings)) (or-right-false (ltb slots (slotsNeed (l .settings))) (ltb frame (frameNeed (l .settings))) enough);
+    }
+
+pub gateOf-facts : (l : Link) (slots frame : ℕ) → gateOf l slots frame ≡ done → Open l slots frame
+unfolding gateOf
+gateOf-facts l slots frame e =
+    record {
+      entered = entryOf-facts l slots frame (firstOf-left (entryOf l slots frame) (cond (l .lost) linkLost done) e);
+      alive = spared (l .lost) linkLost (omega arith) (firstOf-right (entryOf l slots frame) (cond (l .lost) linkLost done) e);
+    }
+
+-- ---- timers
+
+leb-left : (a b : ℕ) → leb a b ≡ eqb (a - b) 0
+leb-left a b = go (leb a b) refl
+  where
+    go : (t : Bool) → leb a b ≡ t → t ≡ eqb (a - b) 0
+    go true e = sym (eq-eqb (a - b) 0 (omega (arith, leb-true a b e)))
+    go false e = sym (ne-eqb (a - b) 0 (λ z. omega (arith, leb-false a b e)))
+
+-- due: the elapsed time, by a subtraction that wraps, is at least the timeout
+pub due-leb : (timeout start ms between : ℕ) → between ≡ elapsed ms start → leb timeout between ≡ due timeout start ms
+due-leb timeout start ms between e = rw e (leb-left timeout (elapsed ms start))

@@ -1,0 +1,36 @@
+-- start and resynchronise, on every input.
+use Prim.Native.Nat.{ℕ}
+use mathlib.Core.Bool.{cond, not}
+use mathlib.Core.List.{List}
+use lib.ListN.{length}
+use lib.Dec.{ltb, eqb}
+use Rattle.base.specs.Answer.{done, outOfRange, shortBuffer}
+use Rattle.base.specs.Buffer.{put}
+use Rattle.frame.specs.Bytes.{resetFrame}
+use Rattle.state.specs.declared.Settings.{Settings}
+use Rattle.state.specs.declared.Link.{Link}
+use Rattle.state.specs.declared.Outcome.{Outcome}
+use Rattle.state.specs.Bounds.{inRange, slotsNeed}
+use Rattle.state.specs.State.{freshOf, renewed}
+use Rattle.state.specs.Gate.{After, after, only, refused, entryOf}
+
+-- "a state of zeros, to which every link call answers 1"
+abbrev pub zeros : Link
+zeros = freshOf (record { d = 0; transmit = 0; acknowledge = 0; window = 0; repeats = 0 })
+
+-- start, of the settings and the length of the slot buffer: "start 1, 2"; "start: a state of zeros"; "start as with 1"
+unfoldable pub started : Settings → ℕ → Outcome
+unfolding inRange freshOf
+started s slots =
+    cond (not (inRange s)) (only zeros outOfRange) (cond (ltb slots (slotsNeed s)) (only zeros shortBuffer) (only (freshOf s) done))
+
+-- "Resynchronise sends the reset frame, C0 00 00 9A 0A, and makes the end fresh, lost or not, dropping what waits."
+abbrev pub resetSent : Link → List ℕ → List ℕ → After Outcome
+resetSent l slots frame =
+    after (record { state = renewed l; sent = 5; delivered = 0; dropped = l .waiting; answer = done }) slots (put frame 0 resetFrame)
+
+unfoldable pub resynchronised : Link → List ℕ → List ℕ → After Outcome
+unfolding entryOf freshOf
+resynchronised l slots frame =
+    cond (eqb (entryOf l (length slots) (length frame)) done) (resetSent l slots frame)
+    (refused l (entryOf l (length slots) (length frame)) slots frame)

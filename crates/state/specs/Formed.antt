@@ -1,0 +1,43 @@
+-- What well-formedness and the gate give, as plain inequalities: what the inner functions require. No public call requires anything.
+use Prim.Native.Nat.{ℕ, _<_, _≤_}
+use mathlib.Core.Bool.{false}
+use mathlib.Core.Path.{_≡_}
+use lib.ListN.{getD}
+use Rattle.state.specs.declared.Settings.{Settings}
+use Rattle.state.specs.declared.Link.{Link}
+use Rattle.state.specs.Bounds.{limitOf, slotsNeed, frameNeed}
+use Rattle.state.specs.State.{sentBefore, lengthOf}
+
+pub record InRange (s : Settings) : Type 0 where
+  pub d-lo : 16 ≤ s .d
+  pub d-hi : s .d ≤ 1024
+  pub window-lo : 1 ≤ s .window
+  pub window-hi : s .window ≤ 2
+  pub transmit-lo : 2 ≤ s .transmit
+  pub transmit-hi : s .transmit ≤ 1000
+  pub acknowledge-lo : 1 ≤ s .acknowledge
+  pub acknowledge-hi : s .acknowledge < s .transmit
+  pub repeats-lo : 1 ≤ s .repeats
+  pub repeats-hi : s .repeats ≤ 4
+
+-- the packet that n were sent after waits, and has a length
+pub record Length (l : Link) (n : ℕ) : Type 0 where
+  pub least : 1 ≤ lengthOf l (sentBefore l n)
+  pub most : lengthOf l (sentBefore l n) ≤ limitOf (l .settings)
+
+pub record Formed (l : Link) : Type 0 where
+  pub settings : InRange (l .settings)
+  pub next : l .next ≤ 3
+  pub expected : l .expected ≤ 3
+  pub waiting : l .waiting ≤ l .settings .window
+  pub lengths : (n : ℕ) → n < l .waiting → Length l n
+  pub counts : (i : ℕ) → i < 2 → getD (l .counts) i 0 ≤ l .settings .repeats
+
+pub record Entered (l : Link) (slots frame : ℕ) : Type 0 where
+  pub formed : Formed l
+  pub slots-room : slotsNeed (l .settings) ≤ slots
+  pub frame-room : frameNeed (l .settings) ≤ frame
+
+pub record Open (l : Link) (slots frame : ℕ) : Type 0 where
+  pub entered : Entered l slots frame
+  pub alive : l .lost ≡ false

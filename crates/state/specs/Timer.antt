@@ -1,0 +1,15 @@
+-- Document 01, "Sending": "Elapsed time is the difference of two clock values modulo 2^32; a timer is due when it is at least its timeout."
+use Prim.Native.Nat.{ℕ, _+_, _-_, _%_}
+use mathlib.Core.Bool.{Bool}
+use lib.Dec.{eqb}
+
+abbrev pub elapsed : ℕ → ℕ → ℕ
+elapsed ms start = (ms + 4294967296 - start) % 4294967296
+
+-- the milliseconds that are left of a timeout
+abbrev pub left : ℕ → ℕ → ℕ → ℕ
+left timeout start ms = timeout - elapsed ms start
+
+-- due: none is left
+abbrev pub due : ℕ → ℕ → ℕ → Bool
+due timeout start ms = eqb (left timeout start ms) 0

@@ -1,0 +1,254 @@
+// What an end keeps: its settings and its state, when they are well formed, the gate 1, 2, 3, fresh, timers; start and resynchronise.
+use base::answer;
+ghost use mathlib.Core.Path.{_≡_};
+ghost use Prim.Native.Nat.{_≤_, _<_};
+ghost use lib.ListN.{length};
+ghost use Rattle.state.specs.Bounds.{limitOf, inRange, slotsNeed};
+ghost use Rattle.state.specs.State.{lastCorrect, behind, sentBefore, slotOf, lengthOk, numbersOk, wellFormed, freshOf, renewed};
+ghost use Rattle.state.specs.Gate.{after, only, entryOf, gateOf};
+ghost use Rattle.state.specs.Timer.{due};
+ghost use Rattle.state.specs.Calls.{zeros, started, resetSent, resynchronised};
+
+pub struct Settings {
+    pub d: u16,
+    pub transmit: u16,
+    pub acknowledge: u16,
+    pub window: u8,
+    pub repeats: u8,
+}
+
+pub struct Link {
+    pub settings: Settings,
+    pub starts: [u32; 2],
+    pub ackstart: u32,
+    pub lengths: [u16; 2],
+    pub counts: [u8; 2],
+    pub next: u8,
+    pub expected: u8,
+    pub waiting: u8,
+    pub acking: bool,
+    pub naked: bool,
+    pub lost: bool,
+}
+
+pub struct Outcome {
+    pub state: Link,
+    pub sent: u16,
+    pub delivered: u16,
+    pub answer: u8,
+    pub dropped: u8,
+}
+
+// ---- numbers and slots
+
+pub fn last_correct(l: Link) -> u8
+    ensures { λ r. ⌜ (r ≡ lastCorrect l) × (r ≤ 3) ⌝ }
+{
+    (l.expected % 4 + 3) % 4
+}
+
+pub fn behind_number(l: Link, number: u8) -> u8
+    requires { ⌜ number ≤ 3 ⌝ }
+    ensures { λ r. ⌜ r ≡ behind l number ⌝ }
+{
+    (l.next % 4 + 7 - number) % 4
+}
+
+pub fn sent_before(l: Link, n: u8) -> u8
+    requires { ⌜ n ≤ 3 ⌝ }
+    ensures { λ r. ⌜ (r ≡ sentBefore l n) × (r ≤ 3) ⌝ }
+{
+    (l.next % 4 + 3 - n) % 4
+}
+
+pub fn slot_of(l: Link, number: u8) -> usize
+    requires { ⌜ 1 ≤ l .settings .window ⌝ }
+    ensures { λ r. ⌜ (r ≡ slotOf l number) × (r < l .settings .window) ⌝ }
+{
+    (number % l.settings.window) as usize
+}
+
+// m, and 0 where D is less than 5.
+pub fn limit(s: Settings) -> usize
+    ensures { λ r. ⌜ r ≡ limitOf s ⌝ }
+{
+    if 5 <= s.d { (s.d - 5) as usize } else { 0 }
+}
+
+// ---- well formed
+
+fn in_range(s: Settings) -> bool
+    ensures { λ r. ⌜ r ≡ inRange s ⌝ }
+{
+    ((16 <= s.d) & (s.d <= 1024))
+        & ((1 <= s.window) & (s.window <= 2))
+        & ((2 <= s.transmit) & (s.transmit <= 1000))
+        & ((1 <= s.acknowledge) & (s.acknowledge < s.transmit))
+        & ((1 <= s.repeats) & (s.repeats <= 4))
+}
+
+fn length_ok(l: Link, number: u8) -> bool
+    requires { ⌜ (1 ≤ l .settings .window) × (l .settings .window ≤ 2) ⌝ }
+    ensures { λ r. ⌜ r ≡ lengthOk l number ⌝ }
+{
+    let slot = slot_of(l, number);
+    let length = l.lengths[slot] as usize;
+    (1 <= length) & (length <= limit(l.settings))
+}
+
+fn numbers_ok(l: Link) -> bool
+    requires { ⌜ (1 ≤ l .settings .window) × (l .settings .window ≤ 2) ⌝ }
+    ensures { λ r. ⌜ r ≡ numbersOk l ⌝ }
+{
+    let newest = length_ok(l, sent_before(l, 0));
+    let older = length_ok(l, sent_before(l, 1));
+    (l.next <= 3)
+        & (l.expected <= 3)
+        & (l.waiting <= l.settings.window)
+        & ((l.waiting < 1) | newest)
+        & ((l.waiting < 2) | older)
+        & (l.counts[0] <= l.settings.repeats)
+        & (l.counts[1] <= l.settings.repeats)
+}
+
+// The settings are tested first: nothing of the rest is looked up by a window out of range.
+fn well_formed(l: Link) -> bool
+    ensures { λ r. ⌜ r ≡ wellFormed l ⌝ }
+{
+    if in_range(l.settings) {
+        return numbers_ok(l);
+    }
+    false
+}
+
+// ---- the gate
+
+pub fn answer_only(l: Link, answer: u8) -> Outcome
+    ensures { λ r. ⌜ r ≡ only l answer ⌝ }
+{
+    Outcome {
+        state: l,
+        sent: 0,
+        delivered: 0,
+        answer,
+        dropped: 0,
+    }
+}
+
+fn slots_need(s: Settings) -> usize
+    requires { ⌜ (s .d ≤ 1024) × (s .window ≤ 2) ⌝ }
+    ensures { λ r. ⌜ r ≡ slotsNeed s ⌝ }
+{
+    (s.window as usize) * limit(s)
+}
+
+fn entry(l: Link, slots: usize, frame: usize) -> u8
+    ensures { λ r. ⌜ r ≡ entryOf l slots frame ⌝ }
+{
+    if well_formed(l) {
+        if (slots < slots_need(l.settings)) | (frame < l.settings.d as usize) {
+            return answer::SHORT_BUFFER;
+        }
+        return answer::DONE;
+    }
+    answer::OUT_OF_RANGE
+}
+
+pub fn gate(l: Link, slots: usize, frame: usize) -> u8
+    ensures { λ r. ⌜ r ≡ gateOf l slots frame ⌝ }
+{
+    let refusal = entry(l, slots, frame);
+    if refusal == answer::DONE {
+        if l.lost {
+            return answer::LINK_LOST;
+        }
+        return answer::DONE;
+    }
+    refusal
+}
+
+// ---- fresh
+
+pub fn fresh(s: Settings) -> Link
+    ensures { λ r. ⌜ r ≡ freshOf s ⌝ }
+{
+    Link {
+        settings: s,
+        starts: [0, 0],
+        ackstart: 0,
+        lengths: [0, 0],
+        counts: [0, 0],
+        next: 0,
+        expected: 0,
+        waiting: 0,
+        acking: false,
+        naked: false,
+        lost: false,
+    }
+}
+
+// The one way by which an end becomes fresh with its settings kept.
+pub fn renew(l: Link) -> Link
+    ensures { λ r. ⌜ r ≡ renewed l ⌝ }
+{
+    fresh(l.settings)
+}
+
+// ---- timers
+
+pub fn is_due(timeout: u16, start: u32, ms: u32) -> bool
+    ensures { λ r. ⌜ r ≡ due timeout start ms ⌝ }
+{
+    (timeout as u32) <= std::num::wrapping_sub_u32(ms, start)
+}
+
+// ---- start and resynchronise
+
+fn zero_state() -> Link
+    ensures { λ r. ⌜ r ≡ zeros ⌝ }
+{
+    fresh(Settings {
+        d: 0,
+        transmit: 0,
+        acknowledge: 0,
+        window: 0,
+        repeats: 0,
+    })
+}
+
+pub fn start(s: Settings, slots: &[u8]) -> Outcome
+    ensures { λ r. ⌜ r ≡ started s (length (now (slots .entry))) ⌝ }
+{
+    if in_range(s) {
+        if slots.len() < slots_need(s) {
+            return answer_only(zero_state(), answer::SHORT_BUFFER);
+        }
+        return answer_only(fresh(s), answer::DONE);
+    }
+    answer_only(zero_state(), answer::OUT_OF_RANGE)
+}
+
+fn send_reset(l: Link, slots: &[u8], frame: &mut [u8]) -> Outcome
+    requires { ⌜ 5 ≤ length (now frame) ⌝ }
+    ensures { λ r. ⌜ after r (now (slots .entry)) (now (frame .exit)) ≡ resetSent l (now (slots .entry)) (now (frame .entry)) ⌝ }
+{
+    let sent = frame::write_reset(frame);
+    let state = renew(l);
+    Outcome {
+        state,
+        sent,
+        delivered: 0,
+        answer: answer::DONE,
+        dropped: l.waiting,
+    }
+}
+
+pub fn resynchronise(l: Link, slots: &[u8], frame: &mut [u8], _ms: u32) -> Outcome
+    ensures { λ r. ⌜ after r (now (slots .entry)) (now (frame .exit)) ≡ resynchronised l (now (slots .entry)) (now (frame .entry)) ⌝ }
+{
+    let refusal = entry(l, slots.len(), frame.len());
+    if refusal == answer::DONE {
+        return send_reset(l, slots, frame);
+    }
+    answer_only(l, refusal)
+}
