@@ -80,14 +80,16 @@ fn numbers_outside() -> Vec<State> {
     all
 }
 
-fn lengths_outside() -> Vec<State> {
-    let base = one_waits();
-    let waits = |waiting, next, length| State {
+fn waits(waiting: u8, next: u8, length: [u16; 2]) -> State {
+    State {
         waiting,
         next,
         length,
-        ..base
-    };
+        ..one_waits()
+    }
+}
+
+fn lengths_outside() -> Vec<State> {
     vec![
         waits(1, 2, [5, 0]),
         waits(1, 2, [5, 12]),
@@ -130,13 +132,6 @@ fn states_inside() -> Vec<State> {
 }
 
 fn lengths_inside() -> Vec<State> {
-    let base = one_waits();
-    let waits = |waiting, next, length| State {
-        waiting,
-        next,
-        length,
-        ..base
-    };
     vec![
         waits(1, 2, [u16::MAX, 1]),
         waits(1, 2, [0, 11]),
