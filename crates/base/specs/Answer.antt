@@ -1,4 +1,4 @@
--- The numbers returned, each with its words of document 01's table, "Numbers returned", which also says what it leaves.
+-- The numbers that the link's calls return, each with its words of document 01's table, "Numbers returned", which also says what it leaves.
 use Prim.Native.Nat.{ℕ}
 use mathlib.Core.Bool.{cond}
 use lib.Dec.{eqb}

@@ -1,4 +1,4 @@
-// The numbers returned, a name for each that the crates give. specs/Answer.antt has the same names for the contracts.
+// The numbers that the link's calls return, a name for each. specs/Answer.antt has the same names for the contracts.
 pub const DONE: u8 = 0;
 
 pub const OUT_OF_RANGE: u8 = 1;

@@ -1,4 +1,4 @@
-// Runs document 01's frames, damaged ones and rubbish through `frame::hear`, and published checksum values through `fcs`.
+// Runs document 01's frames, damaged ones and rubbish through `frame::hear`, and checksum values through `fcs`.
 use frame::Heard;
 use libc::STDOUT_FILENO;
 

@@ -10,6 +10,7 @@ use lib.ListN.{length, take, drop, getD}
 use lib.Seq.{drop-cons, take-append-seam, drop-append-seam}
 use lib.Dec.{eqb}
 use Rattle.fcs.specs.Checksum.{checksumOf}
+use Rattle.frame.specs.declared.Heard.{Heard}
 use Rattle.frame.specs.declared.Heard.the-variants.{Ack, Nak, Data}
 use Rattle.frame.specs.Bytes.{lenBytes, fcsBytes, sealed, frameOf, resetFrame}
 use Rattle.frame.specs.Steps.{sameBytes, fcsAt, used, accepted, judged, heard}
@@ -83,17 +84,23 @@ pub data-heard : DataHeard
 data-heard d number acknowledged packet hn ha hl h =
     heard-framed d (number * 4 + acknowledged) packet h ∙ judged-data number acknowledged (length packet) hn ha hl
 
+-- four control codes in a row that are judged so are heard so
+control-heard : (code : ℕ) (says : ℕ → Heard)
+    → judged (code + 0) 0 5 ≡ says 0
+    → judged (code + 1) 0 5 ≡ says 1
+    → judged (code + 2) 0 5 ≡ says 2
+    → judged (code + 3) 0 5 ≡ says 3
+    → (d k : ℕ) → k ≤ 3 → 5 ≤ d → heard d (frameOf (code + k) []) ≡ says k
+control-heard code says e0 e1 e2 e3 d k hk h =
+    heard-framed d (code + k) [] h ∙ four (λ (n : ℕ). judged (code + n) 0 5 ≡ says n) e0 e1 e2 e3 k hk
+
 pub ack-heard : AckHeard
 unfolding judged
-ack-heard d acknowledged ha h =
-    heard-framed d (0x80 + acknowledged) [] h
-    ∙ four (λ (k : ℕ). judged (0x80 + k) 0 5 ≡ Ack k) refl refl refl refl acknowledged ha
+ack-heard = control-heard 0x80 Ack refl refl refl refl
 
 pub nak-heard : NakHeard
 unfolding judged
-nak-heard d acknowledged ha h =
-    heard-framed d (0xA0 + acknowledged) [] h
-    ∙ four (λ (k : ℕ). judged (0xA0 + k) 0 5 ≡ Nak k) refl refl refl refl acknowledged ha
+nak-heard = control-heard 0xA0 Nak refl refl refl refl
 
 pub resetFrame-framed : resetFrame ≡ frameOf 0xC0 []
 unfolding frameOf checksumOf

@@ -1,4 +1,4 @@
--- What is promised of frames beyond the functions' own contracts; proofs/Heard.antt proves each.
+-- What is promised of frames beyond the functions' own contracts; proofs/Hearing.antt proves each.
 use Prim.Native.Nat.{ℕ, _+_, _≤_}
 use mathlib.Core.Bool.{false}
 use mathlib.Core.List.{List}

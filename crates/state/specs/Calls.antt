@@ -27,7 +27,7 @@ started s slots =
 -- "Resynchronise sends the reset frame, C0 00 00 9A 0A, and makes the end fresh, lost or not, dropping what waits."
 abbrev pub resetSent : Link → List ℕ → List ℕ → After Outcome
 resetSent l slots frame =
-    after (record { state = renewed l; sent = 5; delivered = 0; dropped = l .waiting; answer = done }) slots (put frame 0 resetFrame)
+    after (record { state = renewed l; sent = length resetFrame; delivered = 0; dropped = l .waiting; answer = done }) slots (put frame 0 resetFrame)
 
 unfoldable pub resynchronised : Link → List ℕ → List ℕ → After Outcome
 unfolding entryOf freshOf

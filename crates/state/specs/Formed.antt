@@ -1,4 +1,4 @@
--- What well-formedness and the gate give, as plain inequalities: what the inner functions require. No public call requires anything.
+-- What the tests of well-formedness and the gate say, as plain inequalities; proofs/Facts.antt shows it, and the way back.
 use Prim.Native.Nat.{ℕ, _<_, _≤_}
 use mathlib.Core.Bool.{false}
 use mathlib.Core.Path.{_≡_}
@@ -20,7 +20,7 @@ pub record InRange (s : Settings) : Type 0 where
   pub repeats-lo : 1 ≤ s .repeats
   pub repeats-hi : s .repeats ≤ 4
 
--- the packet that n were sent after waits, and has a length
+-- the packet that n were sent after has a length of 1 to m
 pub record Length (l : Link) (n : ℕ) : Type 0 where
   pub least : 1 ≤ lengthOf l (sentBefore l n)
   pub most : lengthOf l (sentBefore l n) ≤ limitOf (l .settings)

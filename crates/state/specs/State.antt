@@ -49,7 +49,7 @@ abbrev pub lengthOk : Link → ℕ → Bool
 lengthOk l number = within 1 (lengthOf l number) (limitOf (l .settings))
 
 -- row 1: "a setting out of range, .. in a state handed in; there also a frame number above 3, more than WIN_SIZE waiting, a waiting length
--- outside 1 to m, a repeat count above TRANS_REPEAT"
+-- outside 1 to m, a repeat count above TRANS_REPEAT". The newest packet waits unless fewer than one do, the one before unless fewer than two.
 unfoldable pub numbersOk : Link → Bool
 numbersOk l =
     leb (l .next) 3
