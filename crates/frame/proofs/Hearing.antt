@@ -1,6 +1,6 @@
 -- What hearing cites, and that what was written is heard. Assumes nothing.
 use mathlib.Core.Path.{_≡_, refl, ap, _∙_}
-use mathlib.Core.Bool.{true, false, _&&_, and-true}
+use mathlib.Core.Bool.{Bool, true, false, cond, not, _&&_, _||_, and-true}
 use mathlib.Core.List.{List, [], _∷_, _++_}
 use Prim.Native.Nat.{ℕ, zero, suc, _+_, _-_, _*_, _/_, _%_, _≤_}
 use native.Mathlib.Numerals.{add-one}
@@ -8,13 +8,13 @@ use native.Mathlib.Omega.{arith}
 use borrow.Author.Tests.{le-ltb, le-leb, lt-leb, eq-eqb, ne-eqb}
 use lib.ListN.{length, take, drop, getD}
 use lib.Seq.{drop-cons, take-append-seam, drop-append-seam}
-use lib.Dec.{eqb}
+use lib.Dec.{eqb, ltb}
 use Rattle.fcs.specs.Checksum.{checksumOf}
 use Rattle.frame.specs.declared.Heard.{Heard}
-use Rattle.frame.specs.declared.Heard.the-variants.{Ack, Nak, Data}
+use Rattle.frame.specs.declared.Heard.the-variants.{Size, Sum, Code, ControlSize, Length, Reset, Ack, Nak, Data}
 use Rattle.frame.specs.Bytes.{lenBytes, fcsBytes, sealed, frameOf, resetFrame}
-use Rattle.frame.specs.Steps.{sameBytes, fcsAt, used, accepted, judged, heard}
-use Rattle.frame.specs.Promises.{DataHeard, AckHeard, NakHeard, ResetHeard}
+use Rattle.frame.specs.Steps.{fctrOf, lenOf, sameBytes, fcsAt, isControl, isNak, isReset, numberOf, acknowledgedOf, used, accepted, judged, heard, acknowledgedIn}
+use Rattle.frame.specs.Promises.{DataHeard, AckHeard, NakHeard, ResetHeard, NumberHeard}
 use Rattle.frame.proofs.Writing.{sealed-length, frameOf-length}
 
 -- ---- step 1
@@ -109,3 +109,30 @@ resetFrame-framed = refl
 pub reset-heard : ResetHeard
 unfolding judged
 reset-heard d h = rw resetFrame-framed (heard-framed d 0xC0 [] h)
+
+-- ---- the acknowledged number
+
+either-small : (t : Bool) (a b : Heard) → acknowledgedIn a ≤ 3 → acknowledgedIn b ≤ 3 → acknowledgedIn (cond t a b) ≤ 3
+either-small true a b p q = p
+either-small false a b p q = q
+
+accepted-small : (fctr len : ℕ) → acknowledgedIn (accepted fctr len) ≤ 3
+unfolding accepted
+accepted-small fctr len =
+    let k : ℕ = acknowledgedOf fctr in
+    either-small (isControl fctr) (cond (isReset fctr) Reset (cond (isNak fctr) (Nak k) (Ack k))) (Data (numberOf fctr) (isNak fctr) k len)
+    (either-small (isReset fctr) Reset (cond (isNak fctr) (Nak k) (Ack k)) (omega arith) (either-small (isNak fctr) (Nak k) (Ack k) (omega arith) (omega arith)))
+    (omega arith)
+
+judged-small : (fctr len size : ℕ) → acknowledgedIn (judged fctr len size) ≤ 3
+unfolding judged
+judged-small fctr len size =
+    either-small (not (used fctr)) Code _ (omega arith)
+    (either-small (isControl fctr && (not (eqb size 5) || not (eqb len 0))) ControlSize _ (omega arith)
+    (either-small (not (isControl fctr) && (eqb len 0 || not (eqb len (size - 5)))) Length (accepted fctr len) (omega arith) (accepted-small fctr len)))
+
+pub number-heard : NumberHeard
+unfolding heard
+number-heard d frame =
+    either-small (ltb (length frame) 5 || ltb d (length frame)) Size _ (omega arith)
+    (either-small (not (fcsAt (length frame - 2) frame)) Sum _ (omega arith) (judged-small (fctrOf frame) (lenOf frame) (length frame)))

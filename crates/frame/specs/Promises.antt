@@ -6,7 +6,7 @@ use mathlib.Core.Path.{_≡_}
 use lib.ListN.{length}
 use Rattle.frame.specs.declared.Heard.the-variants.{Reset, Ack, Nak, Data}
 use Rattle.frame.specs.Bytes.{dataFrame, ackFrame, nakFrame, resetFrame}
-use Rattle.frame.specs.Steps.{heard}
+use Rattle.frame.specs.Steps.{heard, acknowledgedIn}
 
 -- Hearing what was written gives back what was meant: for a data frame of every number and acknowledgement and a packet of 1 to D − 5 bytes ..
 abbrev pub DataHeard : Type 0
@@ -24,3 +24,7 @@ NakHeard = (d acknowledged : ℕ) → acknowledged ≤ 3 → 5 ≤ d → heard d
 -- .. and for the reset frame.
 abbrev pub ResetHeard : Type 0
 ResetHeard = (d : ℕ) → 5 ≤ d → heard d resetFrame ≡ Reset
+
+-- An acknowledgement that is heard names a frame number, 0 to 3.
+abbrev pub NumberHeard : Type 0
+NumberHeard = (d : ℕ) (frame : List ℕ) → acknowledgedIn (heard d frame) ≤ 3

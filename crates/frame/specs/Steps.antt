@@ -90,3 +90,15 @@ refusalOf Reset = done
 refusalOf (Ack acknowledged) = done
 refusalOf (Nak acknowledged) = done
 refusalOf (Data number nak acknowledged length) = done
+
+-- the acknowledged number that a frame brings, 0 for none
+abbrev pub acknowledgedIn : Heard → ℕ
+acknowledgedIn Size = 0
+acknowledgedIn Sum = 0
+acknowledgedIn Code = 0
+acknowledgedIn ControlSize = 0
+acknowledgedIn Length = 0
+acknowledgedIn Reset = 0
+acknowledgedIn (Ack acknowledged) = acknowledged
+acknowledgedIn (Nak acknowledged) = acknowledged
+acknowledgedIn (Data number nak acknowledged length) = acknowledged

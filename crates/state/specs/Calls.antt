@@ -3,7 +3,7 @@ use Prim.Native.Nat.{ℕ}
 use mathlib.Core.Bool.{cond, not}
 use mathlib.Core.List.{List}
 use lib.ListN.{length}
-use lib.Dec.{ltb, eqb}
+use lib.Dec.{ltb}
 use Rattle.base.specs.Answer.{done, outOfRange, shortBuffer}
 use Rattle.base.specs.Buffer.{put}
 use Rattle.frame.specs.Bytes.{resetFrame}
@@ -12,7 +12,7 @@ use Rattle.state.specs.declared.Link.{Link}
 use Rattle.state.specs.declared.Outcome.{Outcome}
 use Rattle.state.specs.Bounds.{inRange, slotsNeed}
 use Rattle.state.specs.State.{freshOf, renewed}
-use Rattle.state.specs.Gate.{After, after, only, refused, entryOf}
+use Rattle.state.specs.Gate.{After, after, only, gated, entryOf}
 
 -- "a state of zeros, to which every link call answers 1"
 abbrev pub zeros : Link
@@ -31,6 +31,4 @@ resetSent l slots frame =
 
 unfoldable pub resynchronised : Link → List ℕ → List ℕ → After Outcome
 unfolding entryOf freshOf
-resynchronised l slots frame =
-    cond (eqb (entryOf l (length slots) (length frame)) done) (resetSent l slots frame)
-    (refused l (entryOf l (length slots) (length frame)) slots frame)
+resynchronised l slots frame = gated (entryOf l (length slots) (length frame)) l slots frame (resetSent l slots frame)

@@ -2,7 +2,7 @@
 use Prim.Native.Nat.{ℕ}
 use mathlib.Core.Bool.{cond, _||_}
 use mathlib.Core.List.{List}
-use lib.Dec.{ltb}
+use lib.Dec.{ltb, eqb}
 use Rattle.base.specs.Answer.{done, firstOf, outOfRange, shortBuffer, linkLost}
 use Rattle.state.specs.declared.Link.{Link}
 use Rattle.state.specs.declared.Outcome.{Outcome}
@@ -25,6 +25,10 @@ only l answer = record { state = l; sent = 0; delivered = 0; dropped = 0; answer
 -- "nothing changed"
 abbrev pub refused : Link → ℕ → List ℕ → List ℕ → After Outcome
 refused l answer slots frame = after (only l answer) slots frame
+
+-- a call behind its gate: nothing but the gate's answer, unless that is 0
+abbrev pub gated : ℕ → Link → List ℕ → List ℕ → After Outcome → After Outcome
+gated answer l slots frame inside = cond (eqb answer done) inside (refused l answer slots frame)
 
 -- 1 and 2, or 0, of a state and the lengths of the two lent buffers
 unfoldable pub entryOf : Link → ℕ → ℕ → ℕ

@@ -1,0 +1,11 @@
+-- `clock::is_acknowledge_due` meets its contract.
+-- Assumes nothing.
+use borrow.Author.Needs.{needs}
+use Rattle.clock.proofs.is_acknowledge_due.Statement.{statement}
+use Rattle.clock.proofs.is_acknowledge_due.Tie as tie
+
+returns : tie.Need-returns
+returns c = rw (c .before .is-due .ensures)
+
+pub is-acknowledge-due-spec : {M : Type 1} → statement M
+is-acknowledge-due-spec = tie.close (tie.spec (λ c κs. search needs) returns)

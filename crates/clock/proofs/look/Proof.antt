@@ -1,0 +1,18 @@
+-- `clock::look` meets its contract.
+-- Assumes nothing.
+use borrow.Author.Tests.{ne-eqb, eq-eqb}
+use Rattle.clock.specs.Look.{looked}
+use borrow.Author.Needs.{needs}
+use Rattle.clock.proofs.look.Statement.{statement}
+use Rattle.clock.proofs.look.Tie as tie
+
+returns : tie.Need-returns
+unfolding looked
+returns c = rw (← c .before .before .before .before .before .gate .ensures, eq-eqb _ _ (c .before .before .before .before .if1 .taken), ← c .before .before .look-open .ensures)
+
+returns-2 : tie.Need-returns-2
+unfolding looked
+returns-2 c = rw (← c .before .before .gate .ensures, ne-eqb _ _ (c .before .if1 .left), c .answer-only .ensures)
+
+pub look-spec : {M : Type 1} → statement M
+look-spec = tie.close (tie.spec (λ c κs. search needs) (λ c κs. search needs) (λ c. search needs) returns (λ c κs. search needs) returns-2)

@@ -1,0 +1,82 @@
+-- look and acknowledge, on every input. Document 01, "Sending".
+use Prim.Native.Nat.{ℕ, _-_}
+use mathlib.Core.Bool.{Bool, true, cond, _&&_}
+use mathlib.Core.List.{List}
+use lib.ListN.{length}
+use lib.Dec.{ltb}
+use Rattle.base.specs.Answer.{done, linkLost}
+use Rattle.state.specs.declared.Link.{Link}
+use Rattle.state.specs.declared.Outcome.{Outcome}
+use Rattle.state.specs.State.{sentBefore, startOf}
+use Rattle.state.specs.Gate.{After, after, gated, gateOf, only}
+use Rattle.state.specs.Timer.{due}
+use Rattle.send.specs.Repeat.{mayRepeat}
+use Rattle.send.specs.Makers.{ends, silent, repeated, acknowledged}
+use Rattle.clock.specs.declared.Looked.{Looked}
+
+-- ---- timers
+
+-- the timer of the packet that n were sent after: it runs while the packet waits
+abbrev pub packetDue : Link → ℕ → ℕ → Bool
+packetDue l n ms = ltb n (l .waiting) && due (l .settings .transmit) (startOf l (sentBefore l n)) ms
+
+abbrev pub acknowledgeDue : Link → ℕ → Bool
+acknowledgeDue l ms = l .acking && due (l .settings .acknowledge) (l .ackstart) ms
+
+-- how many were sent after the oldest waiting packet (0 where none waits)
+abbrev pub oldest : Link → ℕ
+oldest l = l .waiting - 1
+
+-- ---- a due packet
+
+abbrev pub lostState : Link → Link
+lostState l = record {
+  settings = l .settings;
+  starts = l .starts;
+  ackstart = l .ackstart;
+  lengths = l .lengths;
+  counts = l .counts;
+  next = l .next;
+  expected = l .expected;
+  waiting = l .waiting;
+  acking = l .acking;
+  naked = l .naked;
+  lost = true;
+}
+
+-- "A due packet already repeated TRANS_REPEAT times makes the link lost and nothing is sent."
+abbrev pub exhausted : Link → List ℕ → List ℕ → After Outcome
+exhausted l slots frame = after (only (lostState l) linkLost) slots frame
+
+abbrev pub served : Link → List ℕ → List ℕ → ℕ → ℕ → After Outcome
+served l slots frame ms number =
+    cond (mayRepeat l number) (ends (repeated l slots frame ms number) done 0 slots) (exhausted l slots frame)
+
+-- ---- the calls
+
+-- a control ACK where one is owed, "else sends nothing"
+abbrev pub acknowledgedIf : Bool → Link → List ℕ → List ℕ → After Outcome
+acknowledgedIf owed l slots frame = ends (cond owed (acknowledged l frame) (silent l frame)) done 0 slots
+
+-- "Looking at the clock serves the oldest waiting packet if due, else the newer, else the acknowledge timer (a control ACK, timer stopped),
+-- else sends nothing."
+unfoldable pub lookedAt : Link → List ℕ → List ℕ → ℕ → After Outcome
+lookedAt l slots frame ms =
+    cond (packetDue l (oldest l) ms) (served l slots frame ms (sentBefore l (oldest l)))
+    (cond (packetDue l 0 ms) (served l slots frame ms (sentBefore l 0))
+    (acknowledgedIf (acknowledgeDue l ms) l slots frame))
+
+-- look's answer is a type of its own
+abbrev pub looking : After Outcome → After Looked
+looking a = after (record { outcome = a .told }) (a .slots) (a .frame)
+
+unfoldable pub looked : Link → List ℕ → List ℕ → ℕ → After Looked
+unfolding gateOf lookedAt
+looked l slots frame ms =
+    looking (gated (gateOf l (length slots) (length frame)) l slots frame (lookedAt l slots frame ms))
+
+-- ""Acknowledge now" sends a control ACK if the acknowledge timer runs and stops it, else sends nothing."
+unfoldable pub acknowledgedNow : Link → List ℕ → List ℕ → After Outcome
+unfolding gateOf
+acknowledgedNow l slots frame =
+    gated (gateOf l (length slots) (length frame)) l slots frame (acknowledgedIf (l .acking) l slots frame)

@@ -1,0 +1,48 @@
+// One end of the link: the six calls, each with all that it promises. None of them requires anything.
+use clock::Looked;
+use state::Link;
+use state::Outcome;
+use state::Settings;
+ghost use mathlib.Core.Path.{_≡_};
+ghost use lib.ListN.{length};
+ghost use Rattle.state.specs.Gate.{after};
+ghost use Rattle.state.specs.Calls.{started, resynchronised};
+ghost use Rattle.send.specs.Submit.{submitted};
+ghost use Rattle.receive.specs.Take.{taken};
+ghost use Rattle.clock.specs.Look.{looked, acknowledgedNow};
+
+pub fn start(s: Settings, slots: &[u8]) -> Outcome
+    ensures { λ r. ⌜ r ≡ started s (length (now (slots .entry))) ⌝ }
+{
+    state::start(s, slots)
+}
+
+pub fn submit(l: Link, slots: &mut [u8], frame: &mut [u8], ms: u32, packet: &[u8]) -> Outcome
+    ensures { λ r. ⌜ after r (now (slots .exit)) (now (frame .exit)) ≡ submitted l (now (slots .entry)) (now (frame .entry)) ms (now (packet .entry)) ⌝ }
+{
+    send::submit(l, slots, frame, ms, packet)
+}
+
+pub fn take(l: Link, slots: &[u8], frame: &mut [u8], ms: u32, received: &[u8]) -> Outcome
+    ensures { λ r. ⌜ after r (now (slots .entry)) (now (frame .exit)) ≡ taken l (now (slots .entry)) (now (frame .entry)) ms (now (received .entry)) ⌝ }
+{
+    receive::take(l, slots, frame, ms, received)
+}
+
+pub fn look(l: Link, slots: &[u8], frame: &mut [u8], ms: u32) -> Looked
+    ensures { λ r. ⌜ after r (now (slots .entry)) (now (frame .exit)) ≡ looked l (now (slots .entry)) (now (frame .entry)) ms ⌝ }
+{
+    clock::look(l, slots, frame, ms)
+}
+
+pub fn acknowledge(l: Link, slots: &[u8], frame: &mut [u8], ms: u32) -> Outcome
+    ensures { λ r. ⌜ after r (now (slots .entry)) (now (frame .exit)) ≡ acknowledgedNow l (now (slots .entry)) (now (frame .entry)) ⌝ }
+{
+    clock::acknowledge(l, slots, frame, ms)
+}
+
+pub fn resynchronise(l: Link, slots: &[u8], frame: &mut [u8], ms: u32) -> Outcome
+    ensures { λ r. ⌜ after r (now (slots .entry)) (now (frame .exit)) ≡ resynchronised l (now (slots .entry)) (now (frame .entry)) ⌝ }
+{
+    state::resynchronise(l, slots, frame, ms)
+}

@@ -1,0 +1,55 @@
+-- What taking a frame cites. Assumes nothing.
+use mathlib.Core.Path.{_≡_, refl, sym}
+use mathlib.Core.Bool.{Bool, true, false, true≢false, _&&_}
+use mathlib.Core.List.{List}
+use Prim.Native.Nat.{ℕ, _≤_}
+use native.Mathlib.Omega.{arith}
+use borrow.Author.Tests.{eq-eqb, ne-eqb}
+use Rattle.base.specs.Answer.{done, unexpected}
+use Rattle.base.proofs.Tests.{and-left, and-right}
+use Rattle.state.specs.declared.Link.{Link}
+use Rattle.state.specs.State.{waits}
+use Rattle.state.specs.declared.Outcome.{Outcome}
+use Rattle.state.specs.Gate.{After, gateOf}
+use Rattle.state.specs.Formed.{Open}
+use Rattle.state.proofs.Facts.{gateOf-facts}
+use Rattle.send.specs.Repeat.{mayRepeat, Ready}
+use Rattle.send.proofs.Facts.{named-ready}
+use Rattle.send.specs.Makers.{silent, ends, acknowledged}
+use Rattle.receive.specs.Steps.{repeatable, acknowledgedBy, delivered}
+use Rattle.receive.specs.Take.{repeatedOr, dataTaken}
+
+-- an open gate has room for a control frame
+pub frame-room : (l : Link) (slots frame : ℕ) → gateOf l slots frame ≡ done → 5 ≤ frame
+frame-room l slots frame e = let o = gateOf-facts l slots frame e in omega (arith, o .entered .frame-room, o .entered .formed .settings)
+
+-- what step 6 would repeat can be repeated
+pub repeatable-ready : (l : Link) (number slots frame : ℕ) → Open l slots frame → number ≤ 3 → repeatable l number ≡ true → Ready l number slots frame
+repeatable-ready l number slots frame o h e =
+    named-ready l number slots frame o h (and-left (waits l number) (mayRepeat l number) e) (and-right (waits l number) (mayRepeat l number) e)
+
+-- also in the state after step 6, which a NAK leaves as it is
+pub nak-ready : (l : Link) (nak : Bool) (number slots frame : ℕ) → Open l slots frame → number ≤ 3 → (nak && repeatable l number) ≡ true
+    → Ready (acknowledgedBy l nak number) number slots frame
+nak-ready l true number slots frame o h e = repeatable-ready l number slots frame o h e
+nak-ready l false number slots frame o h e = absurd (true≢false (sym e))
+
+-- step 6 leaves the expected number
+pub acknowledgedBy-expected : (l : Link) (nak : Bool) (number : ℕ) → acknowledgedBy l nak number .expected ≡ l .expected
+acknowledgedBy-expected l true number = refl
+acknowledgedBy-expected l false number = refl
+
+-- a data frame taken, of the state after step 6, the one after step 7, and whether a packet is repeated
+pub delivered-data : (l sixth seventh : Link) (slots frame : List ℕ) (ms number : ℕ) (nak repeat : Bool) (acknowledgement len : ℕ) (r : After Outcome)
+    → number ≡ l .expected → repeat ≡ repeatable l acknowledgement → sixth ≡ acknowledgedBy l nak acknowledgement → seventh ≡ delivered sixth ms
+    → r ≡ ends (repeatedOr (nak && repeat) seventh slots frame ms acknowledgement (silent seventh frame)) done len slots
+    → r ≡ dataTaken l slots frame ms number nak acknowledgement len
+unfolding dataTaken
+delivered-data l sixth seventh slots frame ms number nak repeat acknowledgement len r n e six seven q = rw (eq-eqb number (l .expected) n) cc
+
+pub unexpected-data : (l sixth : Link) (slots frame : List ℕ) (ms number : ℕ) (nak repeat : Bool) (acknowledgement len : ℕ) (r : After Outcome)
+    → (number ≡ l .expected → ⊥) → repeat ≡ repeatable l acknowledgement → sixth ≡ acknowledgedBy l nak acknowledgement
+    → r ≡ ends (repeatedOr (nak && repeat) sixth slots frame ms acknowledgement (acknowledged sixth frame)) unexpected 0 slots
+    → r ≡ dataTaken l slots frame ms number nak acknowledgement len
+unfolding dataTaken
+unexpected-data l sixth slots frame ms number nak repeat acknowledgement len r n e six q = rw (ne-eqb number (l .expected) n) cc

@@ -1,0 +1,71 @@
+-- `receive::obey` meets its contract.
+-- Assumes nothing.
+use Rattle.state.proofs.Facts.{gateOf-facts}
+use mathlib.Core.Path.{subst, _≡_}
+use Prim.Native.Nat.{ℕ, _≤_}
+use Rattle.frame.specs.Steps.{acknowledgedIn}
+use Rattle.receive.specs.Take.{obeyed}
+use Rattle.receive.proofs.Facts.{frame-room}
+use borrow.Author.Needs.{needs}
+use Rattle.receive.proofs.obey.Statement.{statement}
+use Rattle.receive.proofs.obey.Tie as tie
+
+refuse-requires : tie.Need-refuse-requires
+refuse-requires c κs = frame-room _ _ _ (c .before .before .before .before .before .pre .0)
+
+refuse-requires-2 : tie.Need-refuse-requires-2
+refuse-requires-2 c κs = frame-room _ _ _ (c .before .before .before .before .before .pre .0)
+
+refuse-requires-3 : tie.Need-refuse-requires-3
+refuse-requires-3 c κs = frame-room _ _ _ (c .before .before .before .before .before .pre .0)
+
+refuse-requires-4 : tie.Need-refuse-requires-4
+refuse-requires-4 c κs = frame-room _ _ _ (c .before .before .before .before .before .pre .0)
+
+free-requires : tie.Need-free-requires
+free-requires c κs = subst (λ x. acknowledgedIn x ≤ 3) (c .before .h .given .1) (c .before .before .before .before .before .pre .1)
+
+obey-nak-requires : tie.Need-obey-nak-requires
+obey-nak-requires c κs = (c .before .before .before .before .before .before .pre .0, subst (λ x. acknowledgedIn x ≤ 3) (c .before .before .h2 .given .1) (c .before .before .before .before .before .before .pre .1))
+
+take-data-requires : tie.Need-take-data-requires
+take-data-requires c κs = (c .before .before .before .before .before .before .pre .0, subst (λ x. acknowledgedIn x ≤ 3) (c .before .before .h3 .given .1) (c .before .before .before .before .before .before .pre .1))
+
+returns : tie.Need-returns
+unfolding obeyed
+returns c = rw (c .before .before .before .before .enum-told .given .1) (c .before .before .refuse .ensures)
+
+returns-2 : tie.Need-returns-2
+unfolding obeyed
+returns-2 c = rw (c .before .before .before .before .enum-told2 .given .1) (c .before .before .refuse2 .ensures)
+
+returns-3 : tie.Need-returns-3
+unfolding obeyed
+returns-3 c = rw (c .before .before .before .before .enum-told3 .given .1) (c .before .before .refuse3 .ensures)
+
+returns-4 : tie.Need-returns-4
+unfolding obeyed
+returns-4 c = rw (c .before .before .enum-told4 .given .1, c .answer-only .ensures, c .before .refusal .ensures)
+
+returns-5 : tie.Need-returns-5
+unfolding obeyed
+returns-5 c = rw (c .before .before .before .before .enum-told5 .given .1) (c .before .before .refuse4 .ensures)
+
+returns-6 : tie.Need-returns-6
+unfolding obeyed
+returns-6 c = rw (c .before .enum-told6 .given .1, c .obey-reset .ensures)
+
+returns-7 : tie.Need-returns-7
+unfolding obeyed
+returns-7 c = rw (c .before .before .before .h .given .1, c .answer-only2 .ensures, c .before .free .ensures)
+
+returns-8 : tie.Need-returns-8
+unfolding obeyed
+returns-8 c = rw (c .before .before .before .before .before .h2 .given .1) (c .before .before .obey-nak .ensures)
+
+returns-9 : tie.Need-returns-9
+unfolding obeyed
+returns-9 c = rw (c .before .before .before .before .before .h3 .given .1) (c .before .before .take-data .ensures)
+
+pub obey-spec : {M : Type 1} → statement M
+obey-spec = tie.close (tie.spec (λ c. search needs) refuse-requires (λ c. search needs) refuse-requires-2 (λ c. search needs) refuse-requires-3 (λ c. search needs) (λ c κs. search needs) (λ c κs. search needs) (λ c. search needs) refuse-requires-4 (λ c. search needs) (λ c κs. search needs) (λ c. search needs) free-requires (λ c κs. search needs) (λ c. search needs) obey-nak-requires (λ c. search needs) take-data-requires (λ c. search needs) returns (λ c. search needs) returns-2 (λ c. search needs) returns-3 returns-4 (λ c. search needs) returns-5 returns-6 returns-7 (λ c. search needs) returns-8 (λ c. search needs) returns-9)

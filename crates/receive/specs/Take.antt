@@ -1,0 +1,63 @@
+-- take, on every input. Document 01, "A received frame, in this order".
+use Prim.Native.Nat.{ℕ}
+use mathlib.Core.Bool.{Bool, cond, _&&_}
+use mathlib.Core.List.{List}
+use lib.ListN.{length}
+use lib.Dec.{eqb}
+use Rattle.base.specs.Answer.{done, unexpected}
+use Rattle.frame.specs.declared.Heard.{Heard}
+use Rattle.frame.specs.declared.Heard.the-variants.{Size, Sum, Code, ControlSize, Length, Reset, Ack, Nak, Data}
+use Rattle.frame.specs.Steps.{heard, refusalOf}
+use Rattle.state.specs.declared.Link.{Link}
+use Rattle.state.specs.declared.Outcome.{Outcome}
+use Rattle.state.specs.State.{renewed}
+use Rattle.state.specs.Gate.{After, after, refused, gated, gateOf}
+use Rattle.send.specs.Makers.{Sending, silent, ends, repeated, acknowledged, refusedOnce}
+use Rattle.receive.specs.Steps.{freed, repeatable, acknowledgedBy, delivered}
+
+-- "answer 6, NAK", "7, NAK"
+abbrev pub nakked : Link → List ℕ → List ℕ → Heard → After Outcome
+nakked l slots frame h = ends (refusedOnce l frame) (refusalOf h) 0 slots
+
+-- "5. Reset: the end becomes fresh with its settings kept, waiting packets are dropped, their count is told. Answer 0."
+abbrev pub reset : Link → Outcome
+reset l = record { state = renewed l; sent = 0; delivered = 0; dropped = l .waiting; answer = done }
+
+-- "If step 6 repeats a packet, its frame is made after step 7, with the last correct number as it then stands, and is the only frame sent."
+-- The state is the one after step 7; what would be sent otherwise comes last.
+abbrev pub repeatedOr : Bool → Link → List ℕ → List ℕ → ℕ → ℕ → Sending → Sending
+repeatedOr repeat l slots frame ms number otherwise = cond repeat (repeated l slots frame ms number) otherwise
+
+-- step 6, of a control NAK
+abbrev pub nakObeyed : Link → List ℕ → List ℕ → ℕ → ℕ → After Outcome
+nakObeyed l slots frame ms number = ends (repeatedOr (repeatable l number) l slots frame ms number (silent l frame)) done 0 slots
+
+-- "7. Data: if its number is the expected one, it is delivered (the packet is the frame from byte 3, LEN bytes) .. Otherwise 9, and an ACK for
+-- the last correct number goes out."
+unfoldable pub dataTaken : Link → List ℕ → List ℕ → ℕ → ℕ → Bool → ℕ → ℕ → After Outcome
+dataTaken l slots frame ms number nak acknowledgement len =
+    let repeat : Bool = nak && repeatable l acknowledgement in
+    let sixth : Link = acknowledgedBy l nak acknowledgement in
+    let seventh : Link = delivered sixth ms in
+    cond (eqb number (l .expected))
+    (ends (repeatedOr repeat seventh slots frame ms acknowledgement (silent seventh frame)) done len slots)
+    (ends (repeatedOr repeat sixth slots frame ms acknowledgement (acknowledged sixth frame)) unexpected 0 slots)
+
+-- what was heard, obeyed
+unfoldable pub obeyed : Link → List ℕ → List ℕ → ℕ → Heard → After Outcome
+unfolding dataTaken
+obeyed l slots frame ms Size = nakked l slots frame Size
+obeyed l slots frame ms Sum = nakked l slots frame Sum
+obeyed l slots frame ms Code = nakked l slots frame Code
+obeyed l slots frame ms ControlSize = refused l (refusalOf ControlSize) slots frame
+obeyed l slots frame ms Length = nakked l slots frame Length
+obeyed l slots frame ms Reset = after (reset l) slots frame
+obeyed l slots frame ms (Ack number) = ends (silent (freed l number) frame) done 0 slots
+obeyed l slots frame ms (Nak number) = nakObeyed l slots frame ms number
+obeyed l slots frame ms (Data number nak acknowledgement len) = dataTaken l slots frame ms number nak acknowledgement len
+
+-- "Order: link calls 1, 2, 3, then .. the frame steps"
+unfoldable pub taken : Link → List ℕ → List ℕ → ℕ → List ℕ → After Outcome
+unfolding gateOf heard obeyed
+taken l slots frame ms received =
+    gated (gateOf l (length slots) (length frame)) l slots frame (obeyed l slots frame ms (heard (l .settings .d) received))

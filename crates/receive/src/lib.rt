@@ -1,0 +1,185 @@
+// take: what a received frame does.
+use base::answer;
+use frame::Heard;
+use send::Sent;
+use state::Link;
+use state::Outcome;
+ghost use mathlib.Core.Path.{_≡_};
+ghost use mathlib.Core.Bool.{Bool, true, false};
+ghost use Prim.Native.Nat.{_+_, _≤_, _<_};
+ghost use lib.ListN.{length};
+ghost use Rattle.state.specs.Gate.{after, gateOf};
+ghost use Rattle.base.specs.Answer.{done};
+ghost use Rattle.frame.specs.Steps.{acknowledgedIn};
+ghost use Rattle.send.specs.Makers.{sending, silent, acknowledged};
+ghost use Rattle.send.specs.Repeat.{Ready};
+ghost use Rattle.receive.specs.Steps.{freed, repeatable, acknowledgedBy, delivered};
+ghost use Rattle.receive.specs.Take.{nakked, reset, repeatedOr, nakObeyed, dataTaken, obeyed, taken};
+
+// ---- step 6
+
+fn free(l: Link, number: u8) -> Link
+    requires { ⌜ number ≤ 3 ⌝ }
+    ensures { λ r. ⌜ r ≡ freed l number ⌝ }
+{
+    let behind = state::behind_number(l, number);
+    let mut k = l;
+    if behind < l.waiting {
+        k.waiting = behind;
+    }
+    k
+}
+
+fn is_repeatable(l: Link, number: u8) -> bool
+    requires { ⌜ (number ≤ 3) × (1 ≤ l .settings .window) × (l .settings .window ≤ 2) ⌝ }
+    ensures { λ r. ⌜ r ≡ repeatable l number ⌝ }
+{
+    let behind = state::behind_number(l, number);
+    (behind < l.waiting) & send::may_repeat(l, number)
+}
+
+fn obey_acknowledgement(l: Link, nak: bool, number: u8) -> Link
+    requires { ⌜ number ≤ 3 ⌝ }
+    ensures { λ r. ⌜ r ≡ acknowledgedBy l nak number ⌝ }
+{
+    if nak {
+        return l;
+    }
+    free(l, number)
+}
+
+// ---- step 7
+
+fn deliver(l: Link, ms: u32) -> Link
+    requires { ⌜ l .expected ≤ 3 ⌝ }
+    ensures { λ r. ⌜ r ≡ delivered l ms ⌝ }
+{
+    let mut k = l;
+    k.expected = (l.expected + 1) % 4;
+    k.naked = false;
+    k.acking = true;
+    if l.acking {
+        return k;
+    }
+    k.ackstart = ms;
+    k
+}
+
+fn repeat_or_nothing(
+    l: Link,
+    slots: &[u8],
+    frame: &mut [u8],
+    ms: u32,
+    number: u8,
+    repeat: bool,
+) -> Sent
+    requires { ⌜ (repeat ≡ true → Ready l number (length (now slots)) (length (now frame))) ⌝ }
+    ensures { λ r. ⌜ sending r (now (frame .exit)) ≡ repeatedOr repeat l (now (slots .entry)) (now (frame .entry)) ms number (silent l (now (frame .entry))) ⌝ }
+{
+    if repeat {
+        return send::repeat(l, slots, frame, ms, number);
+    }
+    Sent { state: l, sent: 0 }
+}
+
+fn repeat_or_ack(l: Link, slots: &[u8], frame: &mut [u8], ms: u32, number: u8, repeat: bool) -> Sent
+    requires { ⌜ (repeat ≡ true → Ready l number (length (now slots)) (length (now frame))) × (5 ≤ length (now frame)) ⌝ }
+    ensures { λ r. ⌜ sending r (now (frame .exit)) ≡ repeatedOr repeat l (now (slots .entry)) (now (frame .entry)) ms number (acknowledged l (now (frame .entry))) ⌝ }
+{
+    if repeat {
+        return send::repeat(l, slots, frame, ms, number);
+    }
+    send::send_ack(l, frame)
+}
+
+fn take_data(
+    l: Link,
+    slots: &[u8],
+    frame: &mut [u8],
+    ms: u32,
+    number: u8,
+    nak: bool,
+    acknowledgement: u8,
+    len: u16,
+) -> Outcome
+    requires { ⌜ (gateOf l (length (now slots)) (length (now frame)) ≡ done) × (acknowledgement ≤ 3) ⌝ }
+    ensures { λ r. ⌜ after r (now (slots .entry)) (now (frame .exit)) ≡ dataTaken l (now (slots .entry)) (now (frame .entry)) ms number nak acknowledgement len ⌝ }
+{
+    let repeat = nak & is_repeatable(l, acknowledgement);
+    let sixth = obey_acknowledgement(l, nak, acknowledgement);
+    if number == l.expected {
+        let seventh = deliver(sixth, ms);
+        let sent = repeat_or_nothing(seventh, slots, frame, ms, acknowledgement, repeat);
+        return send::end(sent, answer::DONE, len);
+    }
+    let sent = repeat_or_ack(sixth, slots, frame, ms, acknowledgement, repeat);
+    send::end(sent, answer::UNEXPECTED, 0)
+}
+
+// ---- all steps
+
+fn refuse(l: Link, slots: &[u8], frame: &mut [u8], h: Heard) -> Outcome
+    requires { ⌜ 5 ≤ length (now frame) ⌝ }
+    ensures { λ r. ⌜ after r (now (slots .entry)) (now (frame .exit)) ≡ nakked l (now (slots .entry)) (now (frame .entry)) h ⌝ }
+{
+    let sent = send::send_nak(l, frame);
+    send::end(sent, frame::refusal(h), 0)
+}
+
+fn obey_reset(l: Link) -> Outcome
+    ensures { λ r. ⌜ r ≡ reset l ⌝ }
+{
+    let state = state::renew(l);
+    Outcome {
+        state,
+        sent: 0,
+        delivered: 0,
+        answer: answer::DONE,
+        dropped: l.waiting,
+    }
+}
+
+fn obey_nak(l: Link, slots: &[u8], frame: &mut [u8], ms: u32, number: u8) -> Outcome
+    requires { ⌜ (gateOf l (length (now slots)) (length (now frame)) ≡ done) × (number ≤ 3) ⌝ }
+    ensures { λ r. ⌜ after r (now (slots .entry)) (now (frame .exit)) ≡ nakObeyed l (now (slots .entry)) (now (frame .entry)) ms number ⌝ }
+{
+    let repeat = is_repeatable(l, number);
+    send::end(
+        repeat_or_nothing(l, slots, frame, ms, number, repeat),
+        answer::DONE,
+        0,
+    )
+}
+
+fn obey(l: Link, slots: &[u8], frame: &mut [u8], ms: u32, h: Heard) -> Outcome
+    requires { ⌜ (gateOf l (length (now slots)) (length (now frame)) ≡ done) × (acknowledgedIn h ≤ 3) ⌝ }
+    ensures { λ r. ⌜ after r (now (slots .entry)) (now (frame .exit)) ≡ obeyed l (now (slots .entry)) (now (frame .entry)) ms h ⌝ }
+{
+    match h {
+        Heard::Size => refuse(l, slots, frame, Heard::Size),
+        Heard::Sum => refuse(l, slots, frame, Heard::Sum),
+        Heard::Code => refuse(l, slots, frame, Heard::Code),
+        Heard::ControlSize => state::answer_only(l, frame::refusal(Heard::ControlSize)),
+        Heard::Length => refuse(l, slots, frame, Heard::Length),
+        Heard::Reset => obey_reset(l),
+        Heard::Ack(number) => state::answer_only(free(l, number), answer::DONE),
+        Heard::Nak(number) => obey_nak(l, slots, frame, ms, number),
+        Heard::Data {
+            number,
+            nak,
+            acknowledged,
+            length,
+        } => take_data(l, slots, frame, ms, number, nak, acknowledged, length),
+    }
+}
+
+pub fn take(l: Link, slots: &[u8], frame: &mut [u8], ms: u32, received: &[u8]) -> Outcome
+    ensures { λ r. ⌜ after r (now (slots .entry)) (now (frame .exit)) ≡ taken l (now (slots .entry)) (now (frame .entry)) ms (now (received .entry)) ⌝ }
+{
+    let refusal = state::gate(l, slots.len(), frame.len());
+    if refusal == answer::DONE {
+        let h = frame::hear(l.settings.d, received);
+        return obey(l, slots, frame, ms, h);
+    }
+    state::answer_only(l, refusal)
+}

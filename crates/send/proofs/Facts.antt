@@ -1,0 +1,85 @@
+-- What lets a packet be taken and a frame be made. Assumes nothing.
+use mathlib.Core.Path.{_≡_, sym, ap, subst}
+use mathlib.Core.Bool.{Bool, true, cond}
+use mathlib.Core.List.{List}
+use Prim.Native.Nat.{ℕ, _+_, _-_, _*_, _<_, _≤_}
+use native.Mathlib.Omega.{arith}
+use borrow.Author.Tests.{ltb-true}
+use lib.Dec.{ltb}
+use lib.ListN.{take, drop}
+use Rattle.base.specs.Range.{within}
+use Rattle.base.specs.Answer.{done, packetSize, windowFull}
+use Rattle.base.proofs.Tests.{within-low, within-high, passed, firstOf-left, firstOf-right}
+use Rattle.state.specs.declared.Link.{Link}
+use Rattle.state.specs.Bounds.{limitOf}
+use Rattle.state.specs.State.{sentBefore, behind, waits, slotOf, lengthOf, countOf}
+use Rattle.state.specs.declared.Outcome.{Outcome}
+use Rattle.state.specs.Gate.{after, gateOf}
+use Rattle.state.specs.Formed.{InRange, Formed, Open}
+use Rattle.state.proofs.Facts.{gateOf-facts, slotOf-lt, part-inside}
+use Rattle.send.specs.Repeat.{partOf, mayRepeat, Ready}
+use Rattle.send.specs.declared.Sent.{Sent}
+use Rattle.send.specs.Makers.{Sending, sending, ends}
+use Rattle.send.specs.Submit.{packetGate, submitGate}
+
+-- what a gate of 0 says, as plain inequalities
+pub record Accepting (l : Link) (slots frame packet : ℕ) : Type 0 where
+  pub gate : Open l slots frame
+  pub least : 1 ≤ packet
+  pub most : packet ≤ limitOf (l .settings)
+  pub place : l .waiting < l .settings .window
+
+pub submitGate-facts : (l : Link) (slots frame packet : ℕ) → submitGate l slots frame packet ≡ done → Accepting l slots frame packet
+unfolding submitGate
+submitGate-facts l slots frame packet e =
+    let size : Bool = within 1 packet (limitOf (l .settings)) in
+    let full : Bool = ltb (l .waiting) (l .settings .window) in
+    let four : ℕ = cond size done packetSize in
+    let five : ℕ = cond full done windowFull in
+    let inner : packetGate l packet ≡ done = firstOf-right (gateOf l slots frame) (packetGate l packet) e in
+    let fits : size ≡ true = passed size packetSize (omega arith) (firstOf-left four five inner) in
+    record {
+      gate = gateOf-facts l slots frame (firstOf-left (gateOf l slots frame) (packetGate l packet) e);
+      least = within-low 1 packet (limitOf (l .settings)) fits;
+      most = within-high 1 packet (limitOf (l .settings)) fits;
+      place = ltb-true (l .waiting) (l .settings .window) (passed full windowFull (omega arith) (firstOf-right four five inner));
+    }
+
+-- a packet of at most m bytes lies in the slot buffer, in the part of its slot
+pub part-fits : (l : Link) (number length slots frame : ℕ) → Open l slots frame → length ≤ limitOf (l .settings) → partOf l number + length ≤ slots
+part-fits l number length slots frame o h =
+    part-inside (slotOf l number) (l .settings .window) (limitOf (l .settings)) length slots
+    (slotOf-lt l number (o .entered .formed .settings .window-lo)) h (o .entered .slots-room)
+
+-- the part of a buffer from an index to the same index and n bytes on is n bytes
+pub part-is : (s : List ℕ) (at n : ℕ) → take (at + n - at) (drop at s) ≡ take n (drop at s)
+part-is s at n = let e : at + n - at ≡ n = omega arith in rw e
+
+-- a waiting packet that has been repeated fewer than TRANS_REPEAT times can be repeated
+pub waiting-ready : (l : Link) (n slots frame : ℕ) → Open l slots frame → n < l .waiting → mayRepeat l (sentBefore l n) ≡ true → Ready l (sentBefore l n) slots frame
+waiting-ready l n slots frame o w e =
+    let f : Formed l = o .entered .formed in
+    let s : InRange (l .settings) = f .settings in
+    let number : ℕ = sentBefore l n in
+    let few : countOf l number < l .settings .repeats = ltb-true (countOf l number) (l .settings .repeats) e in
+    let len : lengthOf l number + 5 ≤ l .settings .d = omega (arith, f .lengths n w .most, s .d-lo) in
+    let small : number ≤ 3 = omega arith in
+    let count : countOf l number < 255 = omega (arith, few, s .repeats-hi) in
+    ((small, s .window-lo, s .window-hi), (part-fits l number (lengthOf l number) slots frame o (f .lengths n w .most), len), (o .entered .frame-room, count))
+
+-- the number that as many were sent after as after this one is this one
+pub behind-sentBefore : (l : Link) (number : ℕ) → l .next ≤ 3 → number ≤ 3 → sentBefore l (behind l number) ≡ number
+behind-sentBefore l number n h = omega arith
+
+-- so too for a packet that is named by its number
+pub named-ready : (l : Link) (number slots frame : ℕ) → Open l slots frame → number ≤ 3 → waits l number ≡ true → mayRepeat l number ≡ true → Ready l number slots frame
+named-ready l number slots frame o h w e =
+    let same : sentBefore l (behind l number) ≡ number = behind-sentBefore l number (o .entered .formed .next) h in
+    let waiting : behind l number < l .waiting = ltb-true (behind l number) (l .waiting) w in
+    subst (λ k. Ready l k slots frame) same (waiting-ready l (behind l number) slots frame o waiting (subst (λ k. mayRepeat l k ≡ true) (sym same) e))
+
+-- a call that ends with what a maker left
+pub ended : (r : Outcome) (s : Sent) (slots frame : List ℕ) (x : Sending) (answer delivered : ℕ)
+    → r ≡ record { state = s .state; sent = s .sent; delivered = delivered; dropped = 0; answer = answer } → sending s frame ≡ x
+    → after r slots frame ≡ ends x answer delivered slots
+ended r s slots frame x answer delivered e q = rw e (ap (λ (y : Sending). ends y answer delivered slots) q)

@@ -1,0 +1,77 @@
+-- The frames that an end sends besides a packet's first: a repeat, a control ACK, a control NAK. Document 01, "A received frame" and "Sending".
+use Prim.Native.Nat.{ℕ, _+_, _%_}
+use mathlib.Core.Bool.{cond, false, true}
+use mathlib.Core.List.{List}
+use lib.ListN.{length}
+use Rattle.base.specs.Buffer.{put}
+use Rattle.frame.specs.Bytes.{dataFrame, ackFrame, nakFrame}
+use Rattle.state.specs.declared.Link.{Link}
+use Rattle.state.specs.declared.Outcome.{Outcome}
+use Rattle.state.specs.State.{lastCorrect}
+use Rattle.state.specs.Gate.{After, after}
+use Rattle.send.specs.declared.Sent.{Sent}
+use Rattle.send.specs.Repeat.{again, packetOf}
+
+-- what a maker leaves: the state with the length of the frame sent, and every byte of the frame buffer
+pub record Sending : Type 0 where
+  pub told : Sent
+  pub frame : List ℕ
+
+abbrev pub sending : Sent → List ℕ → Sending
+sending s frame = record { told = s; frame = frame }
+
+abbrev pub sends : Link → List ℕ → List ℕ → Sending
+sends l bytes frame = sending (record { state = l; sent = length bytes }) (put frame 0 bytes)
+
+abbrev pub silent : Link → List ℕ → Sending
+silent l frame = sending (record { state = l; sent = 0 }) frame
+
+-- a call that ends so: its answer, the length of the packet delivered, and the slot buffer as it was
+abbrev pub ends : Sending → ℕ → ℕ → List ℕ → After Outcome
+ends s answer delivered slots =
+    after (record { state = s .told .state; sent = s .told .sent; delivered = delivered; dropped = 0; answer = answer }) slots (s .frame)
+
+-- ---- the makers
+
+-- "Each data frame, also a repeated one, carries ACK for the last correct number at that moment": made anew from the slot
+abbrev pub repeated : Link → List ℕ → List ℕ → ℕ → ℕ → Sending
+repeated l slots frame ms number = sends (again l number ms) (dataFrame number (lastCorrect l) (packetOf l slots number)) frame
+
+-- "Every control ACK stops the acknowledge timer"
+abbrev pub quiet : Link → Link
+quiet l = record {
+  settings = l .settings;
+  starts = l .starts;
+  ackstart = l .ackstart;
+  lengths = l .lengths;
+  counts = l .counts;
+  next = l .next;
+  expected = l .expected;
+  waiting = l .waiting;
+  acking = false;
+  naked = l .naked;
+  lost = l .lost;
+}
+
+abbrev pub acknowledged : Link → List ℕ → Sending
+acknowledged l frame = sends (quiet l) (ackFrame (lastCorrect l)) frame
+
+-- "a control NAK doesn't"; the mark that one was sent
+abbrev pub marked : Link → Link
+marked l = record {
+  settings = l .settings;
+  starts = l .starts;
+  ackstart = l .ackstart;
+  lengths = l .lengths;
+  counts = l .counts;
+  next = l .next;
+  expected = l .expected;
+  waiting = l .waiting;
+  acking = l .acking;
+  naked = true;
+  lost = l .lost;
+}
+
+-- "A NAK names the last correct number + 1, is always a control frame, and is sent at most once until the next delivery."
+abbrev pub refusedOnce : Link → List ℕ → Sending
+refusedOnce l frame = cond (l .naked) (silent l frame) (sends (marked l) (nakFrame ((lastCorrect l + 1) % 4)) frame)

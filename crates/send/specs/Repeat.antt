@@ -1,0 +1,49 @@
+-- A waiting packet: its bytes in the slot buffer, and what sending its frame does to the state. Document 01, "Sending".
+use Prim.Native.Nat.{ℕ, _+_, _*_, _≤_, _<_}
+use mathlib.Core.Bool.{Bool, false}
+use mathlib.Core.List.{List}
+use lib.ListN.{take, drop, set}
+use lib.Dec.{ltb}
+use Rattle.state.specs.declared.Link.{Link}
+use Rattle.state.specs.Bounds.{limitOf}
+use Rattle.state.specs.State.{slotOf, lengthOf, countOf}
+
+-- "the slot's part of the lent buffer beginning where the slot begins"
+abbrev pub partOf : Link → ℕ → ℕ
+partOf l number = slotOf l number * limitOf (l .settings)
+
+-- the packet as it stands in its slot
+abbrev pub packetOf : Link → List ℕ → ℕ → List ℕ
+packetOf l slots number = take (lengthOf l number) (drop (partOf l number) slots)
+
+-- "Each data frame, also a repeated one, carries ACK for the last correct number at that moment and stops the acknowledge timer." With it the
+-- packet's timer starts, at its first sending and at each repeat.
+abbrev pub dataSent : Link → ℕ → ℕ → ℕ → Link
+dataSent l number ms count = record {
+  settings = l .settings;
+  starts = set (l .starts) (slotOf l number) ms;
+  ackstart = l .ackstart;
+  lengths = l .lengths;
+  counts = set (l .counts) (slotOf l number) count;
+  next = l .next;
+  expected = l .expected;
+  waiting = l .waiting;
+  acking = false;
+  naked = l .naked;
+  lost = l .lost;
+}
+
+-- "A repeat adds 1 to its count and restarts its timer."
+abbrev pub again : Link → ℕ → ℕ → Link
+again l number ms = dataSent l number ms (countOf l number + 1)
+
+-- "has been repeated fewer than TRANS_REPEAT times"
+abbrev pub mayRepeat : Link → ℕ → Bool
+mayRepeat l number = ltb (countOf l number) (l .settings .repeats)
+
+-- what the maker of a repeat needs: a frame number, a slot, the packet in the slot buffer, its frame in a frame buffer, a count that can rise
+abbrev pub Ready : Link → ℕ → ℕ → ℕ → Type 0
+Ready l number slots frame =
+    ((number ≤ 3) × (1 ≤ l .settings .window) × (l .settings .window ≤ 2))
+    × ((partOf l number + lengthOf l number ≤ slots) × (lengthOf l number + 5 ≤ l .settings .d))
+    × ((l .settings .d ≤ frame) × (countOf l number < 255))

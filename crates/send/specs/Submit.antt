@@ -1,0 +1,65 @@
+-- submit, on every input. Document 01, "Sending" and "Numbers returned".
+use Prim.Native.Nat.{ℕ, _+_, _%_}
+use mathlib.Core.Bool.{cond}
+use mathlib.Core.List.{List}
+use lib.ListN.{length, set}
+use lib.Dec.{ltb}
+use Rattle.base.specs.Answer.{done, packetSize, windowFull, firstOf}
+use Rattle.base.specs.Range.{within}
+use Rattle.base.specs.Buffer.{put}
+use Rattle.frame.specs.Bytes.{dataFrame}
+use Rattle.state.specs.declared.Link.{Link}
+use Rattle.state.specs.declared.Outcome.{Outcome}
+use Rattle.state.specs.Bounds.{limitOf}
+use Rattle.state.specs.State.{lastCorrect, slotOf}
+use Rattle.state.specs.Gate.{After, after, gated, gateOf}
+use Rattle.send.specs.Repeat.{partOf, dataSent}
+
+-- 4, "packet of 0 or more than m bytes"; 5, "WIN_SIZE packets wait"
+abbrev pub packetGate : Link → ℕ → ℕ
+packetGate l packet =
+    firstOf (cond (within 1 packet (limitOf (l .settings))) done packetSize) (cond (ltb (l .waiting) (l .settings .window)) done windowFull)
+
+-- "Order: link calls 1, 2, 3, then 4, 5"
+unfoldable pub submitGate : Link → ℕ → ℕ → ℕ → ℕ
+unfolding gateOf
+submitGate l slots frame packet = firstOf (gateOf l slots frame) (packetGate l packet)
+
+-- one more packet waits, of this length, under the next number
+abbrev pub queued : Link → ℕ → Link
+queued l packet = record {
+  settings = l .settings;
+  starts = l .starts;
+  ackstart = l .ackstart;
+  lengths = set (l .lengths) (slotOf l (l .next)) packet;
+  counts = l .counts;
+  next = (l .next + 1) % 4;
+  expected = l .expected;
+  waiting = l .waiting + 1;
+  acking = l .acking;
+  naked = l .naked;
+  lost = l .lost;
+}
+
+-- "It sends the frame, starts that packet's timer, and sets its repeat count to 0."
+abbrev pub sentFirst : Link → ℕ → ℕ → Link
+sentFirst l ms packet = queued (dataSent l (l .next) ms 0) packet
+
+-- "Submit copies the packet to the slot numbered (frame number modulo WIN_SIZE), the slot's part of the lent buffer beginning where the slot
+-- begins; every other byte stays."
+abbrev pub accepted : Link → List ℕ → List ℕ → ℕ → List ℕ → After Outcome
+accepted l slots frame ms packet =
+    after (record {
+      state = sentFirst l ms (length packet);
+      sent = length (dataFrame (l .next) (lastCorrect l) packet);
+      delivered = 0;
+      dropped = 0;
+      answer = done;
+    })
+    (put slots (partOf l (l .next)) packet)
+    (put frame 0 (dataFrame (l .next) (lastCorrect l) packet))
+
+unfoldable pub submitted : Link → List ℕ → List ℕ → ℕ → List ℕ → After Outcome
+unfolding submitGate
+submitted l slots frame ms packet =
+    gated (submitGate l (length slots) (length frame) (length packet)) l slots frame (accepted l slots frame ms packet)

@@ -1,0 +1,181 @@
+// What an end sends: submit, and the one maker of a repeat, of a control ACK and of a control NAK.
+use base::answer;
+use base::buffer;
+use state::Link;
+use state::Outcome;
+ghost use mathlib.Core.Path.{_≡_};
+ghost use Prim.Native.Nat.{_+_, _≤_, _<_};
+ghost use lib.ListN.{length};
+ghost use Rattle.base.specs.Answer.{done};
+ghost use Rattle.state.specs.Gate.{after};
+ghost use Rattle.state.specs.State.{lengthOf, countOf};
+ghost use Rattle.send.specs.Repeat.{partOf, dataSent, mayRepeat, Ready};
+ghost use Rattle.send.specs.Makers.{sending, repeated, quiet, acknowledged, marked, refusedOnce};
+ghost use Rattle.send.specs.Submit.{submitGate, queued, accepted, submitted};
+
+// A state, and the length of the frame that was sent with it, 0 for none.
+pub struct Sent {
+    pub state: Link,
+    pub sent: u16,
+}
+
+pub fn end(s: Sent, answer: u8, delivered: u16) -> Outcome
+    ensures { λ r. ⌜ r ≡ record { state = s .state; sent = s .sent; delivered = delivered; dropped = 0; answer = answer } ⌝ }
+{
+    let state = s.state;
+    Outcome {
+        state,
+        sent: s.sent,
+        delivered,
+        answer,
+        dropped: 0,
+    }
+}
+
+// ---- a waiting packet
+
+fn part_of(l: Link, number: u8) -> usize
+    requires { ⌜ (1 ≤ l .settings .window) × (l .settings .window ≤ 2) ⌝ }
+    ensures { λ r. ⌜ r ≡ partOf l number ⌝ }
+{
+    let slot = state::slot_of(l, number);
+    slot * state::limit(l.settings)
+}
+
+fn length_of(l: Link, number: u8) -> usize
+    requires { ⌜ (1 ≤ l .settings .window) × (l .settings .window ≤ 2) ⌝ }
+    ensures { λ r. ⌜ r ≡ lengthOf l number ⌝ }
+{
+    let slot = state::slot_of(l, number);
+    l.lengths[slot] as usize
+}
+
+fn count_of(l: Link, number: u8) -> u8
+    requires { ⌜ (1 ≤ l .settings .window) × (l .settings .window ≤ 2) ⌝ }
+    ensures { λ r. ⌜ r ≡ countOf l number ⌝ }
+{
+    let slot = state::slot_of(l, number);
+    l.counts[slot]
+}
+
+pub fn may_repeat(l: Link, number: u8) -> bool
+    requires { ⌜ (1 ≤ l .settings .window) × (l .settings .window ≤ 2) ⌝ }
+    ensures { λ r. ⌜ r ≡ mayRepeat l number ⌝ }
+{
+    count_of(l, number) < l.settings.repeats
+}
+
+// ---- a repeat
+
+fn data_sent(l: Link, number: u8, ms: u32, count: u8) -> Link
+    requires { ⌜ (1 ≤ l .settings .window) × (l .settings .window ≤ 2) ⌝ }
+    ensures { λ r. ⌜ r ≡ dataSent l number ms count ⌝ }
+{
+    let slot = state::slot_of(l, number);
+    let mut k = l;
+    k.starts[slot] = ms;
+    k.counts[slot] = count;
+    k.acking = false;
+    k
+}
+
+pub fn repeat(l: Link, slots: &[u8], frame: &mut [u8], ms: u32, number: u8) -> Sent
+    requires { ⌜ Ready l number (length (now slots)) (length (now frame)) ⌝ }
+    ensures { λ r. ⌜ sending r (now (frame .exit)) ≡ repeated l (now (slots .entry)) (now (frame .entry)) ms number ⌝ }
+{
+    let part = part_of(l, number);
+    let end = part + length_of(l, number);
+    let sent = frame::write_data(frame, number, state::last_correct(l), &slots[part..end]);
+    let state = data_sent(l, number, ms, count_of(l, number) + 1);
+    Sent { state, sent }
+}
+
+// ---- control frames
+
+fn stop_acknowledging(l: Link) -> Link
+    ensures { λ r. ⌜ r ≡ quiet l ⌝ }
+{
+    let mut k = l;
+    k.acking = false;
+    k
+}
+
+pub fn send_ack(l: Link, frame: &mut [u8]) -> Sent
+    requires { ⌜ 5 ≤ length (now frame) ⌝ }
+    ensures { λ r. ⌜ sending r (now (frame .exit)) ≡ acknowledged l (now (frame .entry)) ⌝ }
+{
+    let sent = frame::write_ack(frame, state::last_correct(l));
+    let state = stop_acknowledging(l);
+    Sent { state, sent }
+}
+
+fn mark(l: Link) -> Link
+    ensures { λ r. ⌜ r ≡ marked l ⌝ }
+{
+    let mut k = l;
+    k.naked = true;
+    k
+}
+
+pub fn send_nak(l: Link, frame: &mut [u8]) -> Sent
+    requires { ⌜ 5 ≤ length (now frame) ⌝ }
+    ensures { λ r. ⌜ sending r (now (frame .exit)) ≡ refusedOnce l (now (frame .entry)) ⌝ }
+{
+    if l.naked {
+        return Sent { state: l, sent: 0 };
+    }
+    let sent = frame::write_nak(frame, (state::last_correct(l) + 1) % 4);
+    let state = mark(l);
+    Sent { state, sent }
+}
+
+// ---- submit
+
+fn submit_gate(l: Link, slots: usize, frame: usize, packet: usize) -> u8
+    ensures { λ r. ⌜ r ≡ submitGate l slots frame packet ⌝ }
+{
+    let refusal = state::gate(l, slots, frame);
+    if refusal == answer::DONE {
+        let limit = state::limit(l.settings);
+        if (1 <= packet) & (packet <= limit) {
+            if l.waiting < l.settings.window {
+                return answer::DONE;
+            }
+            return answer::WINDOW_FULL;
+        }
+        return answer::PACKET_SIZE;
+    }
+    refusal
+}
+
+fn queue(l: Link, packet: u16) -> Link
+    requires { ⌜ (1 ≤ l .settings .window) × (l .settings .window ≤ 2) × (l .next ≤ 3) × (l .waiting < 2) ⌝ }
+    ensures { λ r. ⌜ r ≡ queued l packet ⌝ }
+{
+    let slot = state::slot_of(l, l.next);
+    let mut k = l;
+    k.lengths[slot] = packet;
+    k.next = (l.next + 1) % 4;
+    k.waiting = l.waiting + 1;
+    k
+}
+
+fn accept(l: Link, slots: &mut [u8], frame: &mut [u8], ms: u32, packet: &[u8]) -> Outcome
+    requires { ⌜ submitGate l (length (now slots)) (length (now frame)) (length (now packet)) ≡ done ⌝ }
+    ensures { λ r. ⌜ after r (now (slots .exit)) (now (frame .exit)) ≡ accepted l (now (slots .entry)) (now (frame .entry)) ms (now (packet .entry)) ⌝ }
+{
+    buffer::copy_at(slots, part_of(l, l.next), packet);
+    let sent = frame::write_data(frame, l.next, state::last_correct(l), packet);
+    let state = queue(data_sent(l, l.next, ms, 0), packet.len() as u16);
+    end(Sent { state, sent }, answer::DONE, 0)
+}
+
+pub fn submit(l: Link, slots: &mut [u8], frame: &mut [u8], ms: u32, packet: &[u8]) -> Outcome
+    ensures { λ r. ⌜ after r (now (slots .exit)) (now (frame .exit)) ≡ submitted l (now (slots .entry)) (now (frame .entry)) ms (now (packet .entry)) ⌝ }
+{
+    let refusal = submit_gate(l, slots.len(), frame.len(), packet.len());
+    if refusal == answer::DONE {
+        return accept(l, slots, frame, ms, packet);
+    }
+    state::answer_only(l, refusal)
+}
