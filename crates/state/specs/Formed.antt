@@ -1,12 +1,12 @@
 -- What the tests of well-formedness and the gate say, as plain inequalities; proofs/Facts.antt shows it, and the way back.
 use Prim.Native.Nat.{ℕ, _<_, _≤_}
-use mathlib.Core.Bool.{false}
+use mathlib.Core.Bool.{true, false}
 use mathlib.Core.Path.{_≡_}
-use lib.ListN.{getD}
+use lib.ListN.{length, getD}
 use Rattle.state.specs.declared.Settings.{Settings}
 use Rattle.state.specs.declared.Link.{Link}
 use Rattle.state.specs.Bounds.{limitOf, slotsNeed, frameNeed}
-use Rattle.state.specs.State.{sentBefore, lengthOf}
+use Rattle.state.specs.State.{sentBefore, lengthOf, wellFormed}
 
 pub record InRange (s : Settings) : Type 0 where
   pub d-lo : 16 ≤ s .d
@@ -41,3 +41,10 @@ pub record Entered (l : Link) (slots frame : ℕ) : Type 0 where
 pub record Open (l : Link) (slots frame : ℕ) : Type 0 where
   pub entered : Entered l slots frame
   pub alive : l .lost ≡ false
+
+-- a state as code can hold it, with arrays of two elements, that is well formed
+pub record Sound (l : Link) : Type 0 where
+  pub starts : length (l .starts) ≡ 2
+  pub lengths : length (l .lengths) ≡ 2
+  pub counts : length (l .counts) ≡ 2
+  pub formed : wellFormed l ≡ true

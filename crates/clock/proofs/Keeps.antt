@@ -1,0 +1,50 @@
+-- Looking at the clock and acknowledging keep an end's state sound. Assumes nothing.
+use mathlib.Core.Path.{_≡_, refl}
+use mathlib.Core.Bool.{Bool, true, false, cond}
+use mathlib.Core.List.{List}
+use Prim.Native.Nat.{ℕ}
+use lib.ListN.{length}
+use Rattle.base.specs.Answer.{done}
+use Rattle.state.specs.declared.Link.{Link}
+use Rattle.state.specs.State.{sentBefore}
+use Rattle.state.specs.Gate.{gateOf}
+use Rattle.state.specs.Formed.{Sound}
+use Rattle.state.proofs.Keeps.{marked-sound, gated-sound}
+use Rattle.send.specs.Repeat.{mayRepeat}
+use Rattle.send.specs.Makers.{ends, repeated}
+use Rattle.send.proofs.Keeps.{again-sound, quiet-sound}
+use Rattle.clock.specs.Look.{packetDue, acknowledgeDue, oldest, exhausted, served, acknowledgedIf, lookedAt, looked, acknowledgedNow}
+
+served-sound : (l : Link) (slots frame : List ℕ) (ms number : ℕ) → Sound l → Sound (served l slots frame ms number .told .state)
+served-sound l slots frame ms number s = go (mayRepeat l number) refl
+  where
+    go : (t : Bool) → mayRepeat l number ≡ t
+        → Sound (cond t (ends (repeated l slots frame ms number) done 0 slots) (exhausted l slots frame) .told .state)
+    go true e = again-sound l number ms s e
+    go false e = marked-sound l (l .ackstart) (l .acking) (l .naked) true s
+
+acknowledgedIf-sound : (owed : Bool) (l : Link) (slots frame : List ℕ) → Sound l → Sound (acknowledgedIf owed l slots frame .told .state)
+acknowledgedIf-sound true l slots frame s = quiet-sound l s
+acknowledgedIf-sound false l slots frame s = s
+
+lookedAt-sound : (l : Link) (slots frame : List ℕ) (ms : ℕ) → Sound l → Sound (lookedAt l slots frame ms .told .state)
+unfolding lookedAt
+lookedAt-sound l slots frame ms s = go (packetDue l (oldest l) ms) (packetDue l 0 ms)
+  where
+    go : (first second : Bool)
+        → Sound (cond first (served l slots frame ms (sentBefore l (oldest l)))
+        (cond second (served l slots frame ms (sentBefore l 0)) (acknowledgedIf (acknowledgeDue l ms) l slots frame)) .told .state)
+    go true second = served-sound l slots frame ms (sentBefore l (oldest l)) s
+    go false true = served-sound l slots frame ms (sentBefore l 0) s
+    go false false = acknowledgedIf-sound (acknowledgeDue l ms) l slots frame s
+
+pub looked-sound : (l : Link) (slots frame : List ℕ) (ms : ℕ) → Sound l → Sound (looked l slots frame ms .told .outcome .state)
+unfolding looked
+looked-sound l slots frame ms s =
+    gated-sound (gateOf l (length slots) (length frame)) l slots frame (lookedAt l slots frame ms) s (λ e. lookedAt-sound l slots frame ms s)
+
+pub acknowledgedNow-sound : (l : Link) (slots frame : List ℕ) → Sound l → Sound (acknowledgedNow l slots frame .told .state)
+unfolding acknowledgedNow
+acknowledgedNow-sound l slots frame s =
+    gated-sound (gateOf l (length slots) (length frame)) l slots frame (acknowledgedIf (l .acking) l slots frame) s
+    (λ e. acknowledgedIf-sound (l .acking) l slots frame s)

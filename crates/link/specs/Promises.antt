@@ -1,0 +1,48 @@
+-- What is promised of the six calls beyond their contracts; proofs/Kept.antt proves each.
+use Prim.Native.Nat.{ℕ, _≤_}
+use mathlib.Core.Bool.{true}
+use mathlib.Core.List.{List}
+use mathlib.Core.Path.{_≡_}
+use lib.ListN.{length}
+use Rattle.base.specs.Answer.{done, outOfRange}
+use Rattle.frame.specs.Bytes.{ackFrame}
+use Rattle.state.specs.declared.Settings.{Settings}
+use Rattle.state.specs.declared.Link.{Link}
+use Rattle.state.specs.Bounds.{inRange, slotsNeed, frameNeed}
+use Rattle.state.specs.State.{freshOf}
+use Rattle.state.specs.Gate.{after, After, refused}
+use Rattle.state.specs.Calls.{zeros, started, resynchronised}
+use Rattle.state.specs.Formed.{Sound}
+use Rattle.send.specs.Submit.{submitted}
+use Rattle.receive.specs.Take.{taken}
+use Rattle.clock.specs.Look.{looking, looked, acknowledgedNow}
+
+-- "any two outcomes allowed are equal": each contract is an equation of this form, with `whole` a definition of the call's inputs alone
+abbrev pub Settled : Type 0 → Type 0
+Settled R =
+    (told other : R) (slots otherSlots frame otherFrame : List ℕ) (whole : After R)
+    → after told slots frame ≡ whole → after other otherSlots otherFrame ≡ whole
+    → (told ≡ other) × (slots ≡ otherSlots) × (frame ≡ otherFrame)
+
+-- "a state of zeros, to which every link call answers 1", and leaves all as it was, with buffers of any length
+pub record ZeroRefused (slots frame : List ℕ) : Type 0 where
+  pub submit : (ms : ℕ) (packet : List ℕ) → submitted zeros slots frame ms packet ≡ refused zeros outOfRange slots frame
+  pub take : (ms : ℕ) (received : List ℕ) → taken zeros slots frame ms received ≡ refused zeros outOfRange slots frame
+  pub look : (ms : ℕ) → looked zeros slots frame ms ≡ looking (refused zeros outOfRange slots frame)
+  pub acknowledge : acknowledgedNow zeros slots frame ≡ refused zeros outOfRange slots frame
+  pub resynchronise : resynchronised zeros slots frame ≡ refused zeros outOfRange slots frame
+
+-- "On a fresh end ACK 3 frees nothing.": it answers 0 and leaves all as it was
+abbrev pub AckThree : Type 0
+AckThree =
+    (s : Settings) (slots frame : List ℕ) (ms : ℕ) → inRange s ≡ true → slotsNeed s ≤ length slots → frameNeed s ≤ length frame
+    → taken (freshOf s) slots frame ms (ackFrame 3) ≡ refused (freshOf s) done slots frame
+
+-- every call leaves a sound state where it found one, whatever it is given; start makes one where it answers 0
+pub record Kept : Type 0 where
+  pub start : (s : Settings) (slots : ℕ) → started s slots .answer ≡ done → Sound (started s slots .state)
+  pub submit : (l : Link) (slots frame : List ℕ) (ms : ℕ) (packet : List ℕ) → Sound l → Sound (submitted l slots frame ms packet .told .state)
+  pub take : (l : Link) (slots frame : List ℕ) (ms : ℕ) (received : List ℕ) → Sound l → Sound (taken l slots frame ms received .told .state)
+  pub look : (l : Link) (slots frame : List ℕ) (ms : ℕ) → Sound l → Sound (looked l slots frame ms .told .outcome .state)
+  pub acknowledge : (l : Link) (slots frame : List ℕ) → Sound l → Sound (acknowledgedNow l slots frame .told .state)
+  pub resynchronise : (l : Link) (slots frame : List ℕ) → Sound l → Sound (resynchronised l slots frame .told .state)

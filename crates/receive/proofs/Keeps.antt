@@ -1,0 +1,100 @@
+-- Taking a frame keeps an end's state sound. Assumes nothing.
+use mathlib.Core.Path.{_≡_, refl}
+use mathlib.Core.Bool.{Bool, true, false, cond, _&&_}
+use mathlib.Core.List.{List}
+use Prim.Native.Nat.{ℕ, _+_, _%_, _≤_}
+use native.Mathlib.Omega.{arith}
+use borrow.Author.Tests.{ltb-true}
+use lib.ListN.{length}
+use lib.Dec.{eqb}
+use Rattle.base.specs.Answer.{done, unexpected}
+use Rattle.base.proofs.Tests.{and-right}
+use Rattle.frame.specs.declared.Heard.{Heard}
+use Rattle.frame.specs.declared.Heard.the-variants.{Size, Sum, Code, ControlSize, Length, Reset, Ack, Nak, Data}
+use Rattle.frame.specs.Steps.{heard}
+use Rattle.state.specs.declared.Link.{Link}
+use Rattle.state.specs.State.{behind, waits}
+use Rattle.state.specs.Gate.{gateOf}
+use Rattle.state.specs.Formed.{Formed, Sound}
+use Rattle.state.proofs.Facts.{wellFormed-facts}
+use Rattle.state.proofs.Keeps.{changed-sound, gated-sound, renewed-sound}
+use Rattle.send.specs.Repeat.{mayRepeat}
+use Rattle.send.specs.Makers.{Sending, silent, ends, acknowledged}
+use Rattle.send.proofs.Keeps.{again-sound, quiet-sound, refusedOnce-sound}
+use Rattle.receive.specs.Steps.{freed, repeatable, acknowledgedBy, delivered}
+use Rattle.receive.specs.Take.{repeatedOr, dataTaken, obeyed, taken}
+
+freed-sound : (l : Link) (number : ℕ) → Sound l → Sound (freed l number)
+freed-sound l number s =
+    let f : Formed l = wellFormed-facts l (s .formed) in
+    changed-sound l (l .starts) (l .counts) (l .ackstart) (l .expected) (cond (waits l number) (behind l number) (l .waiting)) (l .acking) (l .naked) (l .lost) s
+    (s .starts) (s .counts) (f .expected) (fewer (waits l number) refl) (f .counts)
+  where
+    fewer : (t : Bool) → waits l number ≡ t → cond t (behind l number) (l .waiting) ≤ l .waiting
+    fewer true e = omega (arith, ltb-true (behind l number) (l .waiting) e)
+    fewer false e = omega arith
+
+acknowledgedBy-sound : (l : Link) (nak : Bool) (number : ℕ) → Sound l → Sound (acknowledgedBy l nak number)
+acknowledgedBy-sound l true number s = s
+acknowledgedBy-sound l false number s = freed-sound l number s
+
+delivered-sound : (l : Link) (ms : ℕ) → Sound l → Sound (delivered l ms)
+delivered-sound l ms s =
+    let f : Formed l = wellFormed-facts l (s .formed) in
+    changed-sound l (l .starts) (l .counts) (cond (l .acking) (l .ackstart) ms) ((l .expected + 1) % 4) (l .waiting) true false (l .lost) s
+    (s .starts) (s .counts) (omega arith) (omega arith) (f .counts)
+
+-- a repeat or what would be sent otherwise
+repeatedOr-sound : (repeat : Bool) (l : Link) (slots frame : List ℕ) (ms number : ℕ) (otherwise : Sending) → Sound l
+    → (repeat ≡ true → mayRepeat l number ≡ true) → Sound (otherwise .told .state)
+    → Sound (repeatedOr repeat l slots frame ms number otherwise .told .state)
+repeatedOr-sound true l slots frame ms number otherwise s m o = again-sound l number ms s (m refl)
+repeatedOr-sound false l slots frame ms number otherwise s m o = o
+
+-- neither step 6 with a NAK nor step 7 touches what decides a repeat
+sixth-repeats : (l : Link) (nak : Bool) (number : ℕ) → (nak && repeatable l number) ≡ true → mayRepeat (acknowledgedBy l nak number) number ≡ true
+sixth-repeats l true number e = and-right (waits l number) (mayRepeat l number) e
+sixth-repeats l false number e = cc
+
+dataTaken-sound : (l : Link) (slots frame : List ℕ) (ms number : ℕ) (nak : Bool) (acknowledgement len : ℕ) → Sound l
+    → Sound (dataTaken l slots frame ms number nak acknowledgement len .told .state)
+unfolding dataTaken
+dataTaken-sound l slots frame ms number nak acknowledgement len s = go (eqb number (l .expected))
+  where
+    repeat : Bool
+    repeat = nak && repeatable l acknowledgement
+
+    sixth : Link
+    sixth = acknowledgedBy l nak acknowledgement
+
+    seventh : Link
+    seventh = delivered sixth ms
+
+    go : (t : Bool)
+        → Sound (cond t (ends (repeatedOr repeat seventh slots frame ms acknowledgement (silent seventh frame)) done len slots)
+        (ends (repeatedOr repeat sixth slots frame ms acknowledgement (acknowledged sixth frame)) unexpected 0 slots) .told .state)
+    go true =
+        let s7 : Sound seventh = delivered-sound sixth ms (acknowledgedBy-sound l nak acknowledgement s) in
+        repeatedOr-sound repeat seventh slots frame ms acknowledgement (silent seventh frame) s7 (sixth-repeats l nak acknowledgement) s7
+    go false =
+        let s6 : Sound sixth = acknowledgedBy-sound l nak acknowledgement s in
+        repeatedOr-sound repeat sixth slots frame ms acknowledgement (acknowledged sixth frame) s6 (sixth-repeats l nak acknowledgement) (quiet-sound sixth s6)
+
+obeyed-sound : (l : Link) (slots frame : List ℕ) (ms : ℕ) (h : Heard) → Sound l → Sound (obeyed l slots frame ms h .told .state)
+unfolding obeyed
+obeyed-sound l slots frame ms Size s = refusedOnce-sound l frame s
+obeyed-sound l slots frame ms Sum s = refusedOnce-sound l frame s
+obeyed-sound l slots frame ms Code s = refusedOnce-sound l frame s
+obeyed-sound l slots frame ms ControlSize s = s
+obeyed-sound l slots frame ms Length s = refusedOnce-sound l frame s
+obeyed-sound l slots frame ms Reset s = renewed-sound l s
+obeyed-sound l slots frame ms (Ack number) s = freed-sound l number s
+obeyed-sound l slots frame ms (Nak number) s =
+    repeatedOr-sound (repeatable l number) l slots frame ms number (silent l frame) s (and-right (waits l number) (mayRepeat l number)) s
+obeyed-sound l slots frame ms (Data number nak acknowledgement len) s = dataTaken-sound l slots frame ms number nak acknowledgement len s
+
+pub taken-sound : (l : Link) (slots frame : List ℕ) (ms : ℕ) (received : List ℕ) → Sound l → Sound (taken l slots frame ms received .told .state)
+unfolding taken
+taken-sound l slots frame ms received s =
+    gated-sound (gateOf l (length slots) (length frame)) l slots frame (obeyed l slots frame ms (heard (l .settings .d) received)) s
+    (λ e. obeyed-sound l slots frame ms (heard (l .settings .d) received) s)

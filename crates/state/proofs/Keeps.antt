@@ -1,0 +1,120 @@
+-- Which changes keep a sound state sound, and that start and resynchronise do. Assumes nothing.
+use mathlib.Core.Path.{_≡_, refl}
+use mathlib.Core.Bool.{Bool, true, false, cond, not}
+use mathlib.Core.List.{List}
+use Prim.Native.Nat.{ℕ, zero, suc, _<_, _≤_}
+use native.Mathlib.Omega.{arith}
+use borrow.Author.Tests.{eqb-true}
+use lib.ListN.{length, getD}
+use lib.Dec.{eqb, ltb}
+use Rattle.base.specs.Answer.{done, outOfRange, shortBuffer}
+use Rattle.state.specs.declared.Settings.{Settings}
+use Rattle.state.specs.declared.Link.{Link}
+use Rattle.state.specs.declared.Outcome.{Outcome}
+use Rattle.state.specs.Bounds.{inRange, slotsNeed}
+use Rattle.state.specs.State.{freshOf, wellFormed}
+use Rattle.state.specs.Gate.{After, only, refused, gated, entryOf}
+use Rattle.state.specs.Calls.{zeros, started, resetSent, resynchronised}
+use Rattle.state.specs.Formed.{InRange, Formed, Sound}
+use Rattle.state.proofs.Facts.{inRange-facts, wellFormed-facts, facts-wellFormed}
+
+-- ---- changes of a state
+
+-- all that a call but submit and a reset may change
+abbrev pub changed : Link → List ℕ → List ℕ → ℕ → ℕ → ℕ → Bool → Bool → Bool → Link
+changed l starts counts ackstart expected waiting acking naked lost = record {
+  settings = l .settings;
+  starts = starts;
+  ackstart = ackstart;
+  lengths = l .lengths;
+  counts = counts;
+  next = l .next;
+  expected = expected;
+  waiting = waiting;
+  acking = acking;
+  naked = naked;
+  lost = lost;
+}
+
+pub changed-sound : (l : Link) (starts counts : List ℕ) (ackstart expected waiting : ℕ) (acking naked lost : Bool) → Sound l
+    → length starts ≡ 2 → length counts ≡ 2 → expected ≤ 3 → waiting ≤ l .waiting → ((i : ℕ) → i < 2 → getD counts i 0 ≤ l .settings .repeats)
+    → Sound (changed l starts counts ackstart expected waiting acking naked lost)
+changed-sound l starts counts ackstart expected waiting acking naked lost s st co e w c =
+    let f : Formed l = wellFormed-facts l (s .formed) in
+    let k : Link = changed l starts counts ackstart expected waiting acking naked lost in
+    record {
+      starts = st;
+      lengths = s .lengths;
+      counts = co;
+      formed = facts-wellFormed k (record {
+        settings = f .settings;
+        next = f .next;
+        expected = e;
+        waiting = omega (arith, f .waiting);
+        lengths = λ n h. let waits : n < l .waiting = omega arith in record { least = f .lengths n waits .least; most = f .lengths n waits .most };
+        counts = c;
+      });
+    }
+
+-- marks and the acknowledge timer: no more than these change
+pub marked-sound : (l : Link) (ackstart : ℕ) (acking naked lost : Bool) → Sound l
+    → Sound (changed l (l .starts) (l .counts) ackstart (l .expected) (l .waiting) acking naked lost)
+marked-sound l ackstart acking naked lost s =
+    let f : Formed l = wellFormed-facts l (s .formed) in
+    changed-sound l (l .starts) (l .counts) ackstart (l .expected) (l .waiting) acking naked lost s (s .starts) (s .counts) (f .expected) (omega arith) (f .counts)
+
+no-counts : (s : Settings) (i : ℕ) → i < 2 → getD (freshOf s .counts) i 0 ≤ s .repeats
+unfolding freshOf
+no-counts s zero h = omega arith
+no-counts s (suc zero) h = omega arith
+no-counts s (suc (suc i)) h = absurd (omega arith)
+
+pub fresh-sound : (s : Settings) → InRange s → Sound (freshOf s)
+unfolding freshOf
+fresh-sound s r =
+    record {
+      starts = refl;
+      lengths = refl;
+      counts = refl;
+      formed = facts-wellFormed (freshOf s) (record {
+        settings = r;
+        next = omega arith;
+        expected = omega arith;
+        waiting = omega arith;
+        lengths = λ n h. absurd (omega arith);
+        counts = no-counts s;
+      });
+    }
+
+-- ---- behind a gate
+
+pub gated-sound : (answer : ℕ) (l : Link) (slots frame : List ℕ) (inside : After Outcome) → Sound l
+    → (answer ≡ done → Sound (inside .told .state)) → Sound (gated answer l slots frame inside .told .state)
+gated-sound answer l slots frame inside s f = go (eqb answer done) refl
+  where
+    go : (t : Bool) → eqb answer done ≡ t → Sound (cond t inside (refused l answer slots frame) .told .state)
+    go true e = f (eqb-true answer done e)
+    go false e = s
+
+-- ---- start and resynchronise
+
+pub renewed-sound : (l : Link) → Sound l → Sound (freshOf (l .settings))
+renewed-sound l s = fresh-sound (l .settings) (wellFormed-facts l (s .formed) .settings)
+
+pub resynchronised-sound : (l : Link) (slots frame : List ℕ) → Sound l → Sound (resynchronised l slots frame .told .state)
+unfolding resynchronised
+resynchronised-sound l slots frame s =
+    gated-sound (entryOf l (length slots) (length frame)) l slots frame (resetSent l slots frame) s (λ e. renewed-sound l s)
+
+pub started-sound : (s : Settings) (slots : ℕ) → started s slots .answer ≡ done → Sound (started s slots .state)
+unfolding started
+started-sound s slots = go (inRange s) refl
+  where
+    room : (t : Bool) → inRange s ≡ true → cond t (only zeros shortBuffer) (only (freshOf s) done) .answer ≡ done → Sound (cond t (only zeros shortBuffer) (only (freshOf s) done) .state)
+    room true e a = absurd (omega arith)
+    room false e a = fresh-sound s (inRange-facts s e)
+
+    go : (t : Bool) → inRange s ≡ t → cond (not t) (only zeros outOfRange) (cond (ltb slots (slotsNeed s)) (only zeros shortBuffer) (only (freshOf s) done)) .answer ≡ done
+        → Sound (cond (not t) (only zeros outOfRange) (cond (ltb slots (slotsNeed s)) (only zeros shortBuffer) (only (freshOf s) done)) .state)
+    go true e a = room (ltb slots (slotsNeed s)) e a
+    go false e a = absurd (omega arith)
