@@ -11,7 +11,7 @@ use Rattle.state.specs.Gate.{gateOf}
 use Rattle.state.specs.Formed.{Sound}
 use Rattle.state.proofs.Keeps.{marked-sound, gated-sound}
 use Rattle.send.specs.Repeat.{mayRepeat}
-use Rattle.send.specs.Makers.{ends, repeated}
+use Rattle.send.specs.Makers.{ends, sendsRepeat}
 use Rattle.send.proofs.Keeps.{again-sound, quiet-sound}
 use Rattle.clock.specs.Look.{packetDue, acknowledgeDue, oldest, exhausted, served, acknowledgedIf, lookedAt, looked, acknowledgedNow}
 
@@ -19,7 +19,7 @@ served-sound : (l : Link) (slots frame : List ℕ) (ms number : ℕ) → Sound l
 served-sound l slots frame ms number s = go (mayRepeat l number) refl
   where
     go : (t : Bool) → mayRepeat l number ≡ t
-        → Sound (cond t (ends (repeated l slots frame ms number) done 0 slots) (exhausted l slots frame) .told .state)
+        → Sound (cond t (ends (sendsRepeat l slots frame ms number) done 0 slots) (exhausted l slots frame) .told .state)
     go true e = again-sound l number ms s e
     go false e = marked-sound l (l .ackstart) (l .acking) (l .naked) true s
 

@@ -11,7 +11,7 @@ use Rattle.state.specs.State.{sentBefore, startOf}
 use Rattle.state.specs.Gate.{After, after, gated, gateOf, only}
 use Rattle.state.specs.Timer.{due}
 use Rattle.send.specs.Repeat.{mayRepeat}
-use Rattle.send.specs.Makers.{ends, silent, repeated, acknowledged}
+use Rattle.send.specs.Makers.{ends, silent, sendsRepeat, sendsAck}
 use Rattle.clock.specs.declared.Looked.{Looked}
 
 -- ---- timers
@@ -50,13 +50,13 @@ exhausted l slots frame = after (only (lostState l) linkLost) slots frame
 
 abbrev pub served : Link → List ℕ → List ℕ → ℕ → ℕ → After Outcome
 served l slots frame ms number =
-    cond (mayRepeat l number) (ends (repeated l slots frame ms number) done 0 slots) (exhausted l slots frame)
+    cond (mayRepeat l number) (ends (sendsRepeat l slots frame ms number) done 0 slots) (exhausted l slots frame)
 
 -- ---- the calls
 
 -- a control ACK where one is owed, "else sends nothing"
 abbrev pub acknowledgedIf : Bool → Link → List ℕ → List ℕ → After Outcome
-acknowledgedIf owed l slots frame = ends (cond owed (acknowledged l frame) (silent l frame)) done 0 slots
+acknowledgedIf owed l slots frame = ends (cond owed (sendsAck l frame) (silent l frame)) done 0 slots
 
 -- "Looking at the clock serves the oldest waiting packet if due, else the newer, else the acknowledge timer (a control ACK, timer stopped),
 -- else sends nothing."

@@ -15,7 +15,7 @@ use Rattle.state.specs.Formed.{Open}
 use Rattle.state.proofs.Facts.{gateOf-facts}
 use Rattle.send.specs.Repeat.{mayRepeat, Ready}
 use Rattle.send.proofs.Facts.{named-ready}
-use Rattle.send.specs.Makers.{silent, ends, acknowledged}
+use Rattle.send.specs.Makers.{silent, ends, sendsAck}
 use Rattle.receive.specs.Steps.{repeatable, acknowledgedBy, delivered}
 use Rattle.receive.specs.Take.{repeatedOr, dataTaken}
 
@@ -49,7 +49,7 @@ delivered-data l sixth seventh slots frame ms number nak repeat acknowledgement 
 
 pub unexpected-data : (l sixth : Link) (slots frame : List ℕ) (ms number : ℕ) (nak repeat : Bool) (acknowledgement len : ℕ) (r : After Outcome)
     → (number ≡ l .expected → ⊥) → repeat ≡ repeatable l acknowledgement → sixth ≡ acknowledgedBy l nak acknowledgement
-    → r ≡ ends (repeatedOr (nak && repeat) sixth slots frame ms acknowledgement (acknowledged sixth frame)) unexpected 0 slots
+    → r ≡ ends (repeatedOr (nak && repeat) sixth slots frame ms acknowledgement (sendsAck sixth frame)) unexpected 0 slots
     → r ≡ dataTaken l slots frame ms number nak acknowledgement len
 unfolding dataTaken
 unexpected-data l sixth slots frame ms number nak repeat acknowledgement len r n e six q = rw (ne-eqb number (l .expected) n) cc

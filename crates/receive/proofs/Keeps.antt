@@ -19,8 +19,8 @@ use Rattle.state.specs.Formed.{Formed, Sound}
 use Rattle.state.proofs.Facts.{wellFormed-facts}
 use Rattle.state.proofs.Keeps.{changed-sound, gated-sound, renewed-sound}
 use Rattle.send.specs.Repeat.{mayRepeat}
-use Rattle.send.specs.Makers.{Sending, silent, ends, acknowledged}
-use Rattle.send.proofs.Keeps.{again-sound, quiet-sound, refusedOnce-sound}
+use Rattle.send.specs.Makers.{Sending, silent, ends, sendsAck}
+use Rattle.send.proofs.Keeps.{again-sound, quiet-sound, sendsNak-sound}
 use Rattle.receive.specs.Steps.{freed, repeatable, acknowledgedBy, delivered}
 use Rattle.receive.specs.Take.{repeatedOr, dataTaken, obeyed, taken}
 
@@ -72,21 +72,21 @@ dataTaken-sound l slots frame ms number nak acknowledgement len s = go (eqb numb
 
     go : (t : Bool)
         → Sound (cond t (ends (repeatedOr repeat seventh slots frame ms acknowledgement (silent seventh frame)) done len slots)
-        (ends (repeatedOr repeat sixth slots frame ms acknowledgement (acknowledged sixth frame)) unexpected 0 slots) .told .state)
+        (ends (repeatedOr repeat sixth slots frame ms acknowledgement (sendsAck sixth frame)) unexpected 0 slots) .told .state)
     go true =
         let s7 : Sound seventh = delivered-sound sixth ms (acknowledgedBy-sound l nak acknowledgement s) in
         repeatedOr-sound repeat seventh slots frame ms acknowledgement (silent seventh frame) s7 (sixth-repeats l nak acknowledgement) s7
     go false =
         let s6 : Sound sixth = acknowledgedBy-sound l nak acknowledgement s in
-        repeatedOr-sound repeat sixth slots frame ms acknowledgement (acknowledged sixth frame) s6 (sixth-repeats l nak acknowledgement) (quiet-sound sixth s6)
+        repeatedOr-sound repeat sixth slots frame ms acknowledgement (sendsAck sixth frame) s6 (sixth-repeats l nak acknowledgement) (quiet-sound sixth s6)
 
 obeyed-sound : (l : Link) (slots frame : List ℕ) (ms : ℕ) (h : Heard) → Sound l → Sound (obeyed l slots frame ms h .told .state)
 unfolding obeyed
-obeyed-sound l slots frame ms Size s = refusedOnce-sound l frame s
-obeyed-sound l slots frame ms Sum s = refusedOnce-sound l frame s
-obeyed-sound l slots frame ms Code s = refusedOnce-sound l frame s
+obeyed-sound l slots frame ms Size s = sendsNak-sound l frame s
+obeyed-sound l slots frame ms Sum s = sendsNak-sound l frame s
+obeyed-sound l slots frame ms Code s = sendsNak-sound l frame s
 obeyed-sound l slots frame ms ControlSize s = s
-obeyed-sound l slots frame ms Length s = refusedOnce-sound l frame s
+obeyed-sound l slots frame ms Length s = sendsNak-sound l frame s
 obeyed-sound l slots frame ms Reset s = renewed-sound l s
 obeyed-sound l slots frame ms (Ack number) s = freed-sound l number s
 obeyed-sound l slots frame ms (Nak number) s =

@@ -12,12 +12,12 @@ use Rattle.state.specs.declared.Link.{Link}
 use Rattle.state.specs.declared.Outcome.{Outcome}
 use Rattle.state.specs.State.{renewed}
 use Rattle.state.specs.Gate.{After, after, refused, gated, gateOf}
-use Rattle.send.specs.Makers.{Sending, silent, ends, repeated, acknowledged, refusedOnce}
+use Rattle.send.specs.Makers.{Sending, silent, ends, sendsRepeat, sendsAck, sendsNak}
 use Rattle.receive.specs.Steps.{freed, repeatable, acknowledgedBy, delivered}
 
 -- "answer 6, NAK", "7, NAK"
-abbrev pub nakked : Link → List ℕ → List ℕ → Heard → After Outcome
-nakked l slots frame h = ends (refusedOnce l frame) (refusalOf h) 0 slots
+abbrev pub refusedWithNak : Link → List ℕ → List ℕ → Heard → After Outcome
+refusedWithNak l slots frame h = ends (sendsNak l frame) (refusalOf h) 0 slots
 
 -- "5. Reset: the end becomes fresh with its settings kept, waiting packets are dropped, their count is told. Answer 0."
 abbrev pub reset : Link → Outcome
@@ -26,7 +26,7 @@ reset l = record { state = renewed l; sent = 0; delivered = 0; dropped = l .wait
 -- "If step 6 repeats a packet, its frame is made after step 7, with the last correct number as it then stands, and is the only frame sent."
 -- The state is the one after step 7; what would be sent otherwise comes last.
 abbrev pub repeatedOr : Bool → Link → List ℕ → List ℕ → ℕ → ℕ → Sending → Sending
-repeatedOr repeat l slots frame ms number otherwise = cond repeat (repeated l slots frame ms number) otherwise
+repeatedOr repeat l slots frame ms number otherwise = cond repeat (sendsRepeat l slots frame ms number) otherwise
 
 -- step 6, of a control NAK
 abbrev pub nakObeyed : Link → List ℕ → List ℕ → ℕ → ℕ → After Outcome
@@ -41,16 +41,16 @@ dataTaken l slots frame ms number nak acknowledgement len =
     let seventh : Link = delivered sixth ms in
     cond (eqb number (l .expected))
     (ends (repeatedOr repeat seventh slots frame ms acknowledgement (silent seventh frame)) done len slots)
-    (ends (repeatedOr repeat sixth slots frame ms acknowledgement (acknowledged sixth frame)) unexpected 0 slots)
+    (ends (repeatedOr repeat sixth slots frame ms acknowledgement (sendsAck sixth frame)) unexpected 0 slots)
 
 -- what was heard, obeyed
 unfoldable pub obeyed : Link → List ℕ → List ℕ → ℕ → Heard → After Outcome
 unfolding dataTaken
-obeyed l slots frame ms Size = nakked l slots frame Size
-obeyed l slots frame ms Sum = nakked l slots frame Sum
-obeyed l slots frame ms Code = nakked l slots frame Code
+obeyed l slots frame ms Size = refusedWithNak l slots frame Size
+obeyed l slots frame ms Sum = refusedWithNak l slots frame Sum
+obeyed l slots frame ms Code = refusedWithNak l slots frame Code
 obeyed l slots frame ms ControlSize = refused l (refusalOf ControlSize) slots frame
-obeyed l slots frame ms Length = nakked l slots frame Length
+obeyed l slots frame ms Length = refusedWithNak l slots frame Length
 obeyed l slots frame ms Reset = after (reset l) slots frame
 obeyed l slots frame ms (Ack number) = ends (silent (freed l number) frame) done 0 slots
 obeyed l slots frame ms (Nak number) = nakObeyed l slots frame ms number

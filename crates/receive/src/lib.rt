@@ -11,10 +11,10 @@ ghost use lib.ListN.{length};
 ghost use Rattle.state.specs.Gate.{after, gateOf};
 ghost use Rattle.base.specs.Answer.{done};
 ghost use Rattle.frame.specs.Steps.{acknowledgedIn};
-ghost use Rattle.send.specs.Makers.{sending, silent, acknowledged};
+ghost use Rattle.send.specs.Makers.{sending, silent, sendsAck};
 ghost use Rattle.send.specs.Repeat.{Ready};
 ghost use Rattle.receive.specs.Steps.{freed, repeatable, acknowledgedBy, delivered};
-ghost use Rattle.receive.specs.Take.{nakked, reset, repeatedOr, nakObeyed, dataTaken, obeyed, taken};
+ghost use Rattle.receive.specs.Take.{refusedWithNak, reset, repeatedOr, nakObeyed, dataTaken, obeyed, taken};
 
 // ---- step 6
 
@@ -84,7 +84,7 @@ fn repeat_or_nothing(
 
 fn repeat_or_ack(l: Link, slots: &[u8], frame: &mut [u8], ms: u32, number: u8, repeat: bool) -> Sent
     requires { ⌜ (repeat ≡ true → Ready l number (length (now slots)) (length (now frame))) × (5 ≤ length (now frame)) ⌝ }
-    ensures { λ r. ⌜ sending r (now (frame .exit)) ≡ repeatedOr repeat l (now (slots .entry)) (now (frame .entry)) ms number (acknowledged l (now (frame .entry))) ⌝ }
+    ensures { λ r. ⌜ sending r (now (frame .exit)) ≡ repeatedOr repeat l (now (slots .entry)) (now (frame .entry)) ms number (sendsAck l (now (frame .entry))) ⌝ }
 {
     if repeat {
         return send::repeat(l, slots, frame, ms, number);
@@ -120,7 +120,7 @@ fn take_data(
 
 fn refuse(l: Link, slots: &[u8], frame: &mut [u8], h: Heard) -> Outcome
     requires { ⌜ 5 ≤ length (now frame) ⌝ }
-    ensures { λ r. ⌜ after r (now (slots .entry)) (now (frame .exit)) ≡ nakked l (now (slots .entry)) (now (frame .entry)) h ⌝ }
+    ensures { λ r. ⌜ after r (now (slots .entry)) (now (frame .exit)) ≡ refusedWithNak l (now (slots .entry)) (now (frame .entry)) h ⌝ }
 {
     let sent = send::send_nak(l, frame);
     send::end(sent, frame::refusal(h), 0)

@@ -17,7 +17,7 @@ use Rattle.state.specs.Formed.{InRange, Length, Formed, Sound}
 use Rattle.state.proofs.Facts.{slotOf-lt, wellFormed-facts, facts-wellFormed}
 use Rattle.state.proofs.Keeps.{changed-sound, marked-sound, gated-sound}
 use Rattle.send.specs.Repeat.{dataSent, again, mayRepeat}
-use Rattle.send.specs.Makers.{silent, sends, quiet, marked, refusedOnce}
+use Rattle.send.specs.Makers.{silent, sends, quiet, marked, sendsNak}
 use Rattle.send.specs.Submit.{submitGate, queued, sentFirst, accepted, submitted}
 use Rattle.send.proofs.Facts.{Accepting, submitGate-facts}
 
@@ -53,8 +53,8 @@ again-sound l number ms s m = dataSent-sound l number ms (countOf l number + 1) 
 pub quiet-sound : (l : Link) → Sound l → Sound (quiet l)
 quiet-sound l s = marked-sound l (l .ackstart) false (l .naked) (l .lost) s
 
-pub refusedOnce-sound : (l : Link) (frame : List ℕ) → Sound l → Sound (refusedOnce l frame .told .state)
-refusedOnce-sound l frame s = go (l .naked)
+pub sendsNak-sound : (l : Link) (frame : List ℕ) → Sound l → Sound (sendsNak l frame .told .state)
+sendsNak-sound l frame s = go (l .naked)
   where
     go : (t : Bool) → Sound (cond t (silent l frame) (sends (marked l) (nakFrame ((lastCorrect l + 1) % 4)) frame) .told .state)
     go true = s

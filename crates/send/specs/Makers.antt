@@ -34,8 +34,8 @@ ends s answer delivered slots =
 -- ---- the makers
 
 -- "Each data frame, also a repeated one, carries ACK for the last correct number at that moment": made anew from the slot
-abbrev pub repeated : Link → List ℕ → List ℕ → ℕ → ℕ → Sending
-repeated l slots frame ms number = sends (again l number ms) (dataFrame number (lastCorrect l) (packetOf l slots number)) frame
+abbrev pub sendsRepeat : Link → List ℕ → List ℕ → ℕ → ℕ → Sending
+sendsRepeat l slots frame ms number = sends (again l number ms) (dataFrame number (lastCorrect l) (packetOf l slots number)) frame
 
 -- "Every control ACK stops the acknowledge timer"
 abbrev pub quiet : Link → Link
@@ -53,8 +53,8 @@ quiet l = record {
   lost = l .lost;
 }
 
-abbrev pub acknowledged : Link → List ℕ → Sending
-acknowledged l frame = sends (quiet l) (ackFrame (lastCorrect l)) frame
+abbrev pub sendsAck : Link → List ℕ → Sending
+sendsAck l frame = sends (quiet l) (ackFrame (lastCorrect l)) frame
 
 -- "a control NAK doesn't"; the mark that one was sent
 abbrev pub marked : Link → Link
@@ -73,5 +73,5 @@ marked l = record {
 }
 
 -- "A NAK names the last correct number + 1, is always a control frame, and is sent at most once until the next delivery."
-abbrev pub refusedOnce : Link → List ℕ → Sending
-refusedOnce l frame = cond (l .naked) (silent l frame) (sends (marked l) (nakFrame ((lastCorrect l + 1) % 4)) frame)
+abbrev pub sendsNak : Link → List ℕ → Sending
+sendsNak l frame = cond (l .naked) (silent l frame) (sends (marked l) (nakFrame ((lastCorrect l + 1) % 4)) frame)

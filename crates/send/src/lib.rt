@@ -7,10 +7,11 @@ ghost use mathlib.Core.Path.{_≡_};
 ghost use Prim.Native.Nat.{_+_, _≤_, _<_};
 ghost use lib.ListN.{length};
 ghost use Rattle.base.specs.Answer.{done};
+ghost use Rattle.base.specs.Buffer.{put};
 ghost use Rattle.state.specs.Gate.{after};
 ghost use Rattle.state.specs.State.{lengthOf, countOf};
 ghost use Rattle.send.specs.Repeat.{partOf, dataSent, mayRepeat, Ready};
-ghost use Rattle.send.specs.Makers.{sending, repeated, quiet, acknowledged, marked, refusedOnce};
+ghost use Rattle.send.specs.Makers.{sending, sendsRepeat, quiet, sendsAck, marked, sendsNak};
 ghost use Rattle.send.specs.Submit.{submitGate, queued, accepted, submitted};
 
 // A state, and the length of the frame that was sent with it, 0 for none.
@@ -81,7 +82,7 @@ fn data_sent(l: Link, number: u8, ms: u32, count: u8) -> Link
 
 pub fn repeat(l: Link, slots: &[u8], frame: &mut [u8], ms: u32, number: u8) -> Sent
     requires { ⌜ Ready l number (length (now slots)) (length (now frame)) ⌝ }
-    ensures { λ r. ⌜ sending r (now (frame .exit)) ≡ repeated l (now (slots .entry)) (now (frame .entry)) ms number ⌝ }
+    ensures { λ r. ⌜ sending r (now (frame .exit)) ≡ sendsRepeat l (now (slots .entry)) (now (frame .entry)) ms number ⌝ }
 {
     let part = part_of(l, number);
     let end = part + length_of(l, number);
@@ -102,7 +103,7 @@ fn stop_acknowledging(l: Link) -> Link
 
 pub fn send_ack(l: Link, frame: &mut [u8]) -> Sent
     requires { ⌜ 5 ≤ length (now frame) ⌝ }
-    ensures { λ r. ⌜ sending r (now (frame .exit)) ≡ acknowledged l (now (frame .entry)) ⌝ }
+    ensures { λ r. ⌜ sending r (now (frame .exit)) ≡ sendsAck l (now (frame .entry)) ⌝ }
 {
     let sent = frame::write_ack(frame, state::last_correct(l));
     let state = stop_acknowledging(l);
@@ -119,7 +120,7 @@ fn mark(l: Link) -> Link
 
 pub fn send_nak(l: Link, frame: &mut [u8]) -> Sent
     requires { ⌜ 5 ≤ length (now frame) ⌝ }
-    ensures { λ r. ⌜ sending r (now (frame .exit)) ≡ refusedOnce l (now (frame .entry)) ⌝ }
+    ensures { λ r. ⌜ sending r (now (frame .exit)) ≡ sendsNak l (now (frame .entry)) ⌝ }
 {
     if l.naked {
         return Sent { state: l, sent: 0 };
@@ -160,11 +161,19 @@ fn queue(l: Link, packet: u16) -> Link
     k
 }
 
+// The slot's part of the slot buffer is lent onward to the copier.
+fn store(l: Link, slots: &mut [u8], packet: &[u8])
+    requires { ⌜ (1 ≤ l .settings .window) × (l .settings .window ≤ 2) × (partOf l (l .next) + length (now packet) ≤ length (now slots)) ⌝ }
+    ensures { λ _. ⌜ now (slots .exit) ≡ put (now (slots .entry)) (partOf l (l .next)) (now (packet .entry)) ⌝ }
+{
+    buffer::copy_at(slots, part_of(l, l.next), packet);
+}
+
 fn accept(l: Link, slots: &mut [u8], frame: &mut [u8], ms: u32, packet: &[u8]) -> Outcome
     requires { ⌜ submitGate l (length (now slots)) (length (now frame)) (length (now packet)) ≡ done ⌝ }
     ensures { λ r. ⌜ after r (now (slots .exit)) (now (frame .exit)) ≡ accepted l (now (slots .entry)) (now (frame .entry)) ms (now (packet .entry)) ⌝ }
 {
-    buffer::copy_at(slots, part_of(l, l.next), packet);
+    store(l, slots, packet);
     let sent = frame::write_data(frame, l.next, state::last_correct(l), packet);
     let state = queue(data_sent(l, l.next, ms, 0), packet.len() as u16);
     end(Sent { state, sent }, answer::DONE, 0)
