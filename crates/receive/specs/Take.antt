@@ -33,7 +33,7 @@ abbrev pub nakObeyed : Link → List ℕ → List ℕ → ℕ → ℕ → After 
 nakObeyed l slots frame ms number = ends (repeatedOr (repeatable l number) l slots frame ms number (silent l frame)) done 0 slots
 
 -- "7. Data: if its number is the expected one, it is delivered (the packet is the frame from byte 3, LEN bytes) .. Otherwise 9, and an ACK for
--- the last correct number goes out."
+-- the last correct number goes out." The states after steps 6 and 7 are named sixth and seventh.
 unfoldable pub dataTaken : Link → List ℕ → List ℕ → ℕ → ℕ → Bool → ℕ → ℕ → After Outcome
 dataTaken l slots frame ms number nak acknowledgement len =
     let repeat : Bool = nak && repeatable l acknowledgement in

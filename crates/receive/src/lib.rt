@@ -105,6 +105,7 @@ fn take_data(
     requires { ⌜ (gateOf l (length (now slots)) (length (now frame)) ≡ done) × (acknowledgement ≤ 3) ⌝ }
     ensures { λ r. ⌜ after r (now (slots .entry)) (now (frame .exit)) ≡ dataTaken l (now (slots .entry)) (now (frame .entry)) ms number nak acknowledgement len ⌝ }
 {
+    // Step 6 decides on a repeat; its frame is made of the state after step 7.
     let repeat = nak & is_repeatable(l, acknowledgement);
     let sixth = obey_acknowledgement(l, nak, acknowledgement);
     if number == l.expected {
