@@ -1,0 +1,16 @@
+-- `rig::field::digit_pairs` is safe and ends.
+-- Assumes nothing.
+use Prim.Native.Nat.{_≤_, _-_}
+use lib.ListN.{length}
+use borrow.Author.Needs.{needs}
+use Rattle.rig.proofs.field.digit_pairs.Statement.{statement}
+use Rattle.rig.proofs.field.digit_pairs.Tie as tie
+
+abbrev Inv-loop : tie.InvT-loop
+Inv-loop line from bytes₀ n₀ i₀ bytes n i = n ≤ 8192
+
+abbrev μ-loop : tie.MeasureT-loop
+μ-loop line from bytes₀ n₀ i₀ bytes n i = length line - i
+
+pub digit-pairs-spec : {M : Type 1} → statement M
+digit-pairs-spec = tie.close (tie.spec Inv-loop μ-loop (λ c. search needs) (λ c κs. search needs) (λ c. search needs) (λ c. search needs) (λ c. search needs) (λ c. search needs) (λ c. search needs) (λ c. search needs) (λ c. search needs))

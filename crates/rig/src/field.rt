@@ -1,0 +1,164 @@
+// A line's fields: numbers in decimal digits, and bytes in hexadecimal ones.
+use crate::buffers::Bytes;
+use crate::buffers::MOST_BYTES;
+ghost use Prim.Native.Nat.{_≤_, _<_};
+ghost use lib.ListN.{length};
+
+// Stands for a field's largest number where the field is bytes.
+pub const BYTES: u64 = u64::MAX;
+
+// No field takes a larger number.
+const LARGEST: u64 = 4294967295;
+
+pub const SPACE: u8 = 32;
+
+const DASH: u8 = 45;
+
+// What pair_at answers where there is no byte.
+const NO_BYTE: u16 = 256;
+
+// The number, or how many bytes; and the index past the field.
+pub struct Field {
+    pub value: u64,
+    pub end: usize,
+    pub good: bool,
+}
+
+pub fn missing() -> Field {
+    Field {
+        value: 0,
+        end: 0,
+        good: false,
+    }
+}
+
+// ---- numbers
+
+// What a decimal digit stands for, or 10.
+fn digit(byte: u8) -> u64
+    ensures { λ r. ⌜ r ≤ 10 ⌝ }
+{
+    if byte < 48 {
+        return 10;
+    }
+    if 57 < byte {
+        return 10;
+    }
+    (byte - 48) as u64
+}
+
+// A number that is too large for every field stays so, whatever digits follow.
+fn appended(value: u64, digit: u64) -> u64
+    requires { ⌜ digit ≤ 9 ⌝ }
+{
+    if LARGEST < value {
+        return value;
+    }
+    value * 10 + digit
+}
+
+fn number(line: &[u8], from: usize, largest: u64) -> Field {
+    let mut value: u64 = 0;
+    let mut i = from;
+    while i < line.len() {
+        let d = digit(line[i]);
+        if 9 < d {
+            break;
+        }
+        value = appended(value, d);
+        i += 1;
+    }
+    Field {
+        value,
+        end: i,
+        good: (from < i) & (value <= largest),
+    }
+}
+
+// ---- bytes
+
+// What a hexadecimal digit of either case stands for, or 16.
+fn nibble(byte: u8) -> u8
+    ensures { λ r. ⌜ r ≤ 16 ⌝ }
+{
+    match byte {
+        48..=57 => byte - 48,
+        65..=70 => byte - 55,
+        97..=102 => byte - 87,
+        _ => 16,
+    }
+}
+
+fn pair(high: u8, low: u8) -> u16
+    ensures { λ r. ⌜ r ≤ 256 ⌝ }
+{
+    let h = nibble(high);
+    let l = nibble(low);
+    if 15 < h {
+        return NO_BYTE;
+    }
+    if 15 < l {
+        return NO_BYTE;
+    }
+    h as u16 * 16 + l as u16
+}
+
+fn pair_at(line: &[u8], at: usize) -> u16
+    requires { ⌜ at < length (now line) ⌝ }
+    ensures { λ r. ⌜ r ≤ 256 ⌝ }
+{
+    if line.len() - at < 2 {
+        return NO_BYTE;
+    }
+    pair(line[at], line[at + 1])
+}
+
+// A digit that is left over, or a byte too many, is not passed: then neither a space nor the line's end follows.
+fn digit_pairs(line: &[u8], from: usize, bytes: &mut Bytes) -> Field {
+    let mut n: usize = 0;
+    let mut i = from;
+    while i < line.len() {
+        let byte = pair_at(line, i);
+        if 255 < byte {
+            break;
+        }
+        if n == MOST_BYTES {
+            break;
+        }
+        bytes[n] = byte as u8;
+        n += 1;
+        i += 2;
+    }
+    Field {
+        value: n as u64,
+        end: i,
+        good: 0 < n,
+    }
+}
+
+fn some_bytes(line: &[u8], from: usize, bytes: &mut Bytes) -> Field {
+    if from < line.len() {
+        if line[from] == DASH {
+            return Field {
+                value: 0,
+                end: from + 1,
+                good: true,
+            };
+        }
+    }
+    digit_pairs(line, from, bytes)
+}
+
+// The field behind the space at `at`.
+pub fn read(line: &[u8], at: usize, largest: u64, bytes: &mut Bytes) -> Field {
+    if line.len() <= at {
+        return missing();
+    }
+    if line[at] != SPACE {
+        return missing();
+    }
+    if largest == BYTES {
+        return some_bytes(line, at + 1, bytes);
+    }
+    number(line, at + 1, largest)
+}
