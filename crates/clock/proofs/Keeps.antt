@@ -13,7 +13,7 @@ use Rattle.state.proofs.Keeps.{marked-sound, gated-sound}
 use Rattle.send.specs.Repeat.{mayRepeat}
 use Rattle.send.specs.Makers.{ends, sendsRepeat}
 use Rattle.send.proofs.Keeps.{again-sound, quiet-sound}
-use Rattle.clock.specs.Look.{packetDue, acknowledgeDue, oldest, exhausted, served, acknowledgedIf, lookedAt, looked, acknowledgedNow}
+use Rattle.clock.specs.Look.{packetDue, acknowledgeDue, afterOldest, exhausted, served, acknowledgedIf, lookedAt, looked, acknowledgedNow}
 
 served-sound : (l : Link) (slots frame : List ℕ) (ms number : ℕ) → Sound l → Sound (served l slots frame ms number .told .state)
 served-sound l slots frame ms number s = go (mayRepeat l number) refl
@@ -29,12 +29,12 @@ acknowledgedIf-sound false l slots frame s = s
 
 lookedAt-sound : (l : Link) (slots frame : List ℕ) (ms : ℕ) → Sound l → Sound (lookedAt l slots frame ms .told .state)
 unfolding lookedAt
-lookedAt-sound l slots frame ms s = go (packetDue l (oldest l) ms) (packetDue l 0 ms)
+lookedAt-sound l slots frame ms s = go (packetDue l (afterOldest l) ms) (packetDue l 0 ms)
   where
     go : (first second : Bool)
-        → Sound (cond first (served l slots frame ms (sentBefore l (oldest l)))
+        → Sound (cond first (served l slots frame ms (sentBefore l (afterOldest l)))
         (cond second (served l slots frame ms (sentBefore l 0)) (acknowledgedIf (acknowledgeDue l ms) l slots frame)) .told .state)
-    go true second = served-sound l slots frame ms (sentBefore l (oldest l)) s
+    go true second = served-sound l slots frame ms (sentBefore l (afterOldest l)) s
     go false true = served-sound l slots frame ms (sentBefore l 0) s
     go false false = acknowledgedIf-sound (acknowledgeDue l ms) l slots frame s
 

@@ -7,6 +7,7 @@ use lib.Dec.{ltb}
 use Rattle.base.specs.Answer.{done, linkLost}
 use Rattle.state.specs.declared.Link.{Link}
 use Rattle.state.specs.declared.Outcome.{Outcome}
+use Rattle.state.specs.Fields.{withLost}
 use Rattle.state.specs.State.{sentBefore, startOf}
 use Rattle.state.specs.Gate.{After, after, gated, gateOf, only}
 use Rattle.state.specs.Timer.{due}
@@ -23,30 +24,15 @@ packetDue l n ms = ltb n (l .waiting) && due (l .settings .transmit) (startOf l 
 abbrev pub acknowledgeDue : Link → ℕ → Bool
 acknowledgeDue l ms = l .acking && due (l .settings .acknowledge) (l .ackstart) ms
 
--- how many were sent after the oldest waiting packet (0 where none waits)
-abbrev pub oldest : Link → ℕ
-oldest l = l .waiting - 1
+-- how many packets were sent after the oldest waiting one (0 where none waits)
+abbrev pub afterOldest : Link → ℕ
+afterOldest l = l .waiting - 1
 
 -- ---- a due packet
 
-abbrev pub lostState : Link → Link
-lostState l = record {
-  settings = l .settings;
-  starts = l .starts;
-  ackstart = l .ackstart;
-  lengths = l .lengths;
-  counts = l .counts;
-  next = l .next;
-  expected = l .expected;
-  waiting = l .waiting;
-  acking = l .acking;
-  naked = l .naked;
-  lost = true;
-}
-
 -- "A due packet already repeated TRANS_REPEAT times makes the link lost and nothing is sent."
 abbrev pub exhausted : Link → List ℕ → List ℕ → After Outcome
-exhausted l slots frame = after (only (lostState l) linkLost) slots frame
+exhausted l slots frame = after (only (withLost l true) linkLost) slots frame
 
 abbrev pub served : Link → List ℕ → List ℕ → ℕ → ℕ → After Outcome
 served l slots frame ms number =
@@ -62,7 +48,7 @@ acknowledgedIf owed l slots frame = ends (cond owed (sendsAck l frame) (silent l
 -- else sends nothing."
 unfoldable pub lookedAt : Link → List ℕ → List ℕ → ℕ → After Outcome
 lookedAt l slots frame ms =
-    cond (packetDue l (oldest l) ms) (served l slots frame ms (sentBefore l (oldest l)))
+    cond (packetDue l (afterOldest l) ms) (served l slots frame ms (sentBefore l (afterOldest l)))
     (cond (packetDue l 0 ms) (served l slots frame ms (sentBefore l 0))
     (acknowledgedIf (acknowledgeDue l ms) l slots frame))
 

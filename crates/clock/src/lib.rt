@@ -6,10 +6,11 @@ ghost use mathlib.Core.Path.{_≡_};
 ghost use mathlib.Core.Bool.{true};
 ghost use Prim.Native.Nat.{_+_, _-_, _≤_, _<_};
 ghost use lib.ListN.{length};
-ghost use Rattle.base.specs.Answer.{done};
+ghost use Rattle.base.specs.Answer.{done, linkLost};
+ghost use Rattle.state.specs.Fields.{withLost};
 ghost use Rattle.state.specs.Gate.{after, only, gateOf};
 ghost use Rattle.send.specs.Repeat.{mayRepeat, Ready};
-ghost use Rattle.clock.specs.Look.{packetDue, acknowledgeDue, oldest, lostState, exhausted, served, acknowledgedIf, lookedAt, looked, acknowledgedNow};
+ghost use Rattle.clock.specs.Look.{packetDue, acknowledgeDue, afterOldest, exhausted, served, acknowledgedIf, lookedAt, looked, acknowledgedNow};
 
 // look's answer: a type of its own, so that it can tell more than the other calls' answers.
 pub struct Looked {
@@ -33,8 +34,8 @@ fn is_acknowledge_due(l: Link, ms: u32) -> bool
     l.acking & state::is_due(l.settings.acknowledge, l.ackstart, ms)
 }
 
-fn oldest_waiting(l: Link) -> u8
-    ensures { λ r. ⌜ r ≡ oldest l ⌝ }
+fn after_oldest(l: Link) -> u8
+    ensures { λ r. ⌜ r ≡ afterOldest l ⌝ }
 {
     if 1 <= l.waiting { l.waiting - 1 } else { 0 }
 }
@@ -43,7 +44,7 @@ fn oldest_waiting(l: Link) -> u8
 
 // The one place where the link is lost.
 fn lose(l: Link) -> Outcome
-    ensures { λ r. ⌜ r ≡ only (lostState l) 3 ⌝ }
+    ensures { λ r. ⌜ r ≡ only (withLost l true) linkLost ⌝ }
 {
     let mut k = l;
     k.lost = true;
@@ -79,7 +80,7 @@ fn look_open(l: Link, slots: &[u8], frame: &mut [u8], ms: u32) -> Outcome
     requires { ⌜ gateOf l (length (now slots)) (length (now frame)) ≡ done ⌝ }
     ensures { λ r. ⌜ after r (now (slots .entry)) (now (frame .exit)) ≡ lookedAt l (now (slots .entry)) (now (frame .entry)) ms ⌝ }
 {
-    let n = oldest_waiting(l);
+    let n = after_oldest(l);
     if is_packet_due(l, n, ms) {
         return serve(l, slots, frame, ms, state::sent_before(l, n));
     }

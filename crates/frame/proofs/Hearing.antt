@@ -1,20 +1,21 @@
 -- What hearing cites, and that what was written is heard. Assumes nothing.
 use mathlib.Core.Path.{_≡_, refl, ap, _∙_}
-use mathlib.Core.Bool.{Bool, true, false, cond, not, _&&_, _||_, and-true}
+use mathlib.Core.Bool.{Bool, true, false, true≢false, cond, not, _&&_, _||_, and-true}
 use mathlib.Core.List.{List, [], _∷_, _++_}
 use Prim.Native.Nat.{ℕ, zero, suc, _+_, _-_, _*_, _/_, _%_, _≤_}
 use native.Mathlib.Numerals.{add-one}
 use native.Mathlib.Omega.{arith}
-use borrow.Author.Tests.{le-ltb, le-leb, lt-leb, eq-eqb, ne-eqb}
+use borrow.Author.Tests.{eqb-true, le-ltb, le-leb, lt-leb, eq-eqb, ne-eqb}
 use lib.ListN.{length, take, drop, getD}
 use lib.Seq.{drop-cons, take-append-seam, drop-append-seam}
 use lib.Dec.{eqb, ltb}
 use Rattle.fcs.specs.Checksum.{checksumOf}
+use Rattle.base.proofs.Tests.{or-right-false}
 use Rattle.frame.specs.declared.Heard.{Heard}
 use Rattle.frame.specs.declared.Heard.the-variants.{Size, Sum, Code, ControlSize, Length, Reset, Ack, Nak, Data}
 use Rattle.frame.specs.Bytes.{lenBytes, fcsBytes, sealed, frameOf, resetFrame}
-use Rattle.frame.specs.Steps.{fctrOf, lenOf, sameBytes, fcsAt, isControl, isNak, isReset, numberOf, acknowledgedOf, used, accepted, judged, heard, acknowledgedIn}
-use Rattle.frame.specs.Promises.{DataHeard, AckHeard, NakHeard, ResetHeard, NumberHeard}
+use Rattle.frame.specs.Steps.{fctrOf, lenOf, sameBytes, fcsAt, isControl, isNak, isReset, numberOf, acknowledgedOf, used, accepted, judged, heard, packetIn, lenIn, acknowledgedIn}
+use Rattle.frame.specs.Promises.{DataHeard, AckHeard, NakHeard, ResetHeard, PacketHeard, LengthHeard, NumberHeard}
 use Rattle.frame.proofs.Writing.{sealed-length, frameOf-length}
 
 -- ---- step 1
@@ -110,29 +111,53 @@ pub reset-heard : ResetHeard
 unfolding judged
 reset-heard d h = rw resetFrame-framed (heard-framed d 0xC0 [] h)
 
--- ---- the acknowledged number
+-- ---- what a frame that was heard brings
 
-either-small : (t : Bool) (a b : Heard) → acknowledgedIn a ≤ 3 → acknowledgedIn b ≤ 3 → acknowledgedIn (cond t a b) ≤ 3
-either-small true a b p q = p
-either-small false a b p q = q
+pub packet-heard : PacketHeard
+unfolding frameOf sealed
+packet-heard number acknowledged packet = take-append-seam packet _
 
-accepted-small : (fctr len : ℕ) → acknowledgedIn (accepted fctr len) ≤ 3
+either : (P : Heard → Type 0) (t : Bool) (a b : Heard) → (t ≡ true → P a) → (t ≡ false → P b) → P (cond t a b)
+either P true a b p q = p refl
+either P false a b p q = q refl
+
+-- step 4 passed, of a data frame
+even : (control : Bool) (len size : ℕ) → control ≡ false → (not control && (eqb len 0 || not (eqb len (size - 5)))) ≡ false → len ≡ size - 5
+even true len size c e = absurd (true≢false c)
+even false len size c e = go (eqb len (size - 5)) refl (or-right-false (eqb len 0) (not (eqb len (size - 5))) e)
+  where
+    go : (t : Bool) → eqb len (size - 5) ≡ t → not t ≡ false → len ≡ size - 5
+    go true q n = eqb-true len (size - 5) q
+    go false q n = absurd (true≢false n)
+
+accepted-holds : (P : Heard → Type 0) (fctr len : ℕ) → P Reset → P (Ack (acknowledgedOf fctr)) → P (Nak (acknowledgedOf fctr))
+    → (isControl fctr ≡ false → P (Data (numberOf fctr) (isNak fctr) (acknowledgedOf fctr) len)) → P (accepted fctr len)
 unfolding accepted
-accepted-small fctr len =
-    let k : ℕ = acknowledgedOf fctr in
-    either-small (isControl fctr) (cond (isReset fctr) Reset (cond (isNak fctr) (Nak k) (Ack k))) (Data (numberOf fctr) (isNak fctr) k len)
-    (either-small (isReset fctr) Reset (cond (isNak fctr) (Nak k) (Ack k)) (omega arith) (either-small (isNak fctr) (Nak k) (Ack k) (omega arith) (omega arith)))
-    (omega arith)
+accepted-holds P fctr len reset ack nak datum =
+    either P (isControl fctr) _ _
+    (λ c. either P (isReset fctr) _ _ (λ r. reset) (λ r. either P (isNak fctr) _ _ (λ n. nak) (λ n. ack)))
+    datum
 
-judged-small : (fctr len size : ℕ) → acknowledgedIn (judged fctr len size) ≤ 3
-unfolding judged
-judged-small fctr len size =
-    either-small (not (used fctr)) Code _ (omega arith)
-    (either-small (isControl fctr && (not (eqb size 5) || not (eqb len 0))) ControlSize _ (omega arith)
-    (either-small (not (isControl fctr) && (eqb len 0 || not (eqb len (size - 5)))) Length (accepted fctr len) (omega arith) (accepted-small fctr len)))
+-- what holds of each refusal and of each frame that passes, a data frame's LEN being its size − 5, holds of whatever is heard
+heard-holds : (P : Heard → Type 0) (d : ℕ) (frame : List ℕ) → P Size → P Sum → P Code → P ControlSize → P Length → P Reset
+    → P (Ack (acknowledgedOf (fctrOf frame))) → P (Nak (acknowledgedOf (fctrOf frame)))
+    → (lenOf frame ≡ length frame - 5 → P (Data (numberOf (fctrOf frame)) (isNak (fctrOf frame)) (acknowledgedOf (fctrOf frame)) (lenOf frame)))
+    → P (heard d frame)
+unfolding heard judged
+heard-holds P d frame size sum code control len reset ack nak datum =
+    either P (ltb (length frame) 5 || ltb d (length frame)) _ _ (λ e. size)
+    (λ e. either P (not (fcsAt (length frame - 2) frame)) _ _ (λ f. sum)
+    (λ f. either P (not (used (fctrOf frame))) _ _ (λ u. code)
+    (λ u. either P (isControl (fctrOf frame) && (not (eqb (length frame) 5) || not (eqb (lenOf frame) 0))) _ _ (λ c. control)
+    (λ c. either P (not (isControl (fctrOf frame)) && (eqb (lenOf frame) 0 || not (eqb (lenOf frame) (length frame - 5)))) _ _ (λ l. len)
+    (λ l. accepted-holds P (fctrOf frame) (lenOf frame) reset ack nak (λ k. datum (even (isControl (fctrOf frame)) (lenOf frame) (length frame) k l)))))))
 
 pub number-heard : NumberHeard
-unfolding heard
 number-heard d frame =
-    either-small (ltb (length frame) 5 || ltb d (length frame)) Size _ (omega arith)
-    (either-small (not (fcsAt (length frame - 2) frame)) Sum _ (omega arith) (judged-small (fctrOf frame) (lenOf frame) (length frame)))
+    heard-holds (λ h. acknowledgedIn h ≤ 3) d frame (omega arith) (omega arith) (omega arith) (omega arith) (omega arith) (omega arith) (omega arith) (omega arith)
+    (λ e. omega arith)
+
+pub length-heard : LengthHeard
+length-heard d frame =
+    heard-holds (λ h. lenIn h ≤ length frame - 5) d frame (omega arith) (omega arith) (omega arith) (omega arith) (omega arith) (omega arith) (omega arith) (omega arith)
+    (λ e. omega (arith, e))

@@ -11,7 +11,8 @@ use Rattle.base.specs.Buffer.{put}
 abbrev pub lenBytes : ℕ → List ℕ
 lenBytes len = (len / 256) ∷ (len % 256) ∷ []
 
--- "FCS (two bytes, low first, by section 3.3)": the one place that knows the order
+-- "FCS (two bytes, low first, by section 3.3)": the one place that knows the order, but for the reset frame,
+-- whose five bytes document 01 gives
 abbrev pub fcsBytes : ℕ → List ℕ
 fcsBytes sum = (sum % 256) ∷ (sum / 256) ∷ []
 
@@ -39,8 +40,8 @@ nakFrame acknowledged = frameOf (0xA0 + acknowledged) []
 abbrev pub resetFrame : List ℕ
 resetFrame = 0xC0 ∷ 0x00 ∷ 0x00 ∷ 0x9A ∷ 0x0A ∷ []
 
--- what a writer leaves: it tells the frame's length, and the frame's bytes stand at the start of the buffer, whose "bytes past what a call
--- writes stay"
+-- what a writer leaves: it tells the frame's length, and the frame's bytes stand at the start of the buffer. "Bytes of a lent buffer past
+-- what a call writes stay."
 pub record Written (frame before after : List ℕ) (sent : ℕ) : Type 0 where
   pub told : sent ≡ length frame
   pub bytes : after ≡ put before 0 frame

@@ -1,18 +1,22 @@
 -- What is promised of frames beyond the functions' own contracts; proofs/Hearing.antt proves each.
-use Prim.Native.Nat.{ℕ, _+_, _≤_}
+use Prim.Native.Nat.{ℕ, _+_, _-_, _≤_}
 use mathlib.Core.Bool.{false}
 use mathlib.Core.List.{List}
 use mathlib.Core.Path.{_≡_}
 use lib.ListN.{length}
 use Rattle.frame.specs.declared.Heard.the-variants.{Reset, Ack, Nak, Data}
 use Rattle.frame.specs.Bytes.{dataFrame, ackFrame, nakFrame, resetFrame}
-use Rattle.frame.specs.Steps.{heard, acknowledgedIn}
+use Rattle.frame.specs.Steps.{heard, packetIn, lenIn, acknowledgedIn}
 
 -- Hearing what was written gives back what was meant: for a data frame of every number and acknowledgement and a packet of 1 to D − 5 bytes ..
 abbrev pub DataHeard : Type 0
 DataHeard =
     (d number acknowledged : ℕ) (packet : List ℕ) → number ≤ 3 → acknowledged ≤ 3 → 1 ≤ length packet → length packet + 5 ≤ d
     → heard d (dataFrame number acknowledged packet) ≡ Data number false acknowledged (length packet)
+
+-- .. and the packet in it is the packet ..
+abbrev pub PacketHeard : Type 0
+PacketHeard = (number acknowledged : ℕ) (packet : List ℕ) → packetIn (dataFrame number acknowledged packet) (length packet) ≡ packet
 
 -- .. for a control ACK and a control NAK of every number ..
 abbrev pub AckHeard : Type 0
@@ -24,6 +28,10 @@ NakHeard = (d acknowledged : ℕ) → acknowledged ≤ 3 → 5 ≤ d → heard d
 -- .. and for the reset frame.
 abbrev pub ResetHeard : Type 0
 ResetHeard = (d : ℕ) → 5 ≤ d → heard d resetFrame ≡ Reset
+
+-- The packet of a data frame that is heard lies in the frame, before FCS.
+abbrev pub LengthHeard : Type 0
+LengthHeard = (d : ℕ) (frame : List ℕ) → lenIn (heard d frame) ≤ length frame - 5
 
 -- An acknowledgement that is heard names a frame number, 0 to 3.
 abbrev pub NumberHeard : Type 0

@@ -89,7 +89,25 @@ refusalOf Length = badFrame
 refusalOf Reset = done
 refusalOf (Ack acknowledged) = done
 refusalOf (Nak acknowledged) = done
-refusalOf (Data number nak acknowledged length) = done
+refusalOf (Data number nak acknowledged len) = done
+
+-- ---- what a frame that was heard brings
+
+-- "the packet is the frame from byte 3, LEN bytes"
+abbrev pub packetIn : List ℕ → ℕ → List ℕ
+packetIn frame len = take len (drop 3 frame)
+
+-- LEN of a data frame, 0 for none
+abbrev pub lenIn : Heard → ℕ
+lenIn Size = 0
+lenIn Sum = 0
+lenIn Code = 0
+lenIn ControlSize = 0
+lenIn Length = 0
+lenIn Reset = 0
+lenIn (Ack acknowledged) = 0
+lenIn (Nak acknowledged) = 0
+lenIn (Data number nak acknowledged len) = len
 
 -- the acknowledged number that a frame brings, 0 for none
 abbrev pub acknowledgedIn : Heard → ℕ
@@ -101,4 +119,4 @@ acknowledgedIn Length = 0
 acknowledgedIn Reset = 0
 acknowledgedIn (Ack acknowledged) = acknowledged
 acknowledgedIn (Nak acknowledged) = acknowledged
-acknowledgedIn (Data number nak acknowledged length) = acknowledged
+acknowledgedIn (Data number nak acknowledged len) = acknowledged

@@ -47,11 +47,14 @@ fresh-open : (s : Settings) (slots frame : ℕ) → InRange s → slotsNeed s �
 unfolding gateOf entryOf freshOf
 fresh-open s slots frame r h k = rw (fresh-sound s r .formed, le-ltb slots (slotsNeed s) h, le-ltb frame (frameNeed s) k)
 
-pub ack-three : AckThree
+pub ack-three : (s : Settings) → AckThree s
 unfolding taken obeyed freshOf
-ack-three s slots frame ms e h k =
-    let r : InRange s = inRange-facts s e in
-    rw (fresh-open s (length slots) (length frame) r h k, ack-heard (s .d) 3 (omega arith) (omega (arith, r .d-lo)))
+ack-three s =
+    record {
+      carried = refl;
+      control = λ slots frame ms e h k. let r : InRange s = inRange-facts s e in
+          rw (fresh-open s (length slots) (length frame) r h k, ack-heard (s .d) 3 (omega arith) (omega (arith, r .d-lo)));
+    }
 
 pub kept : Kept
 kept =

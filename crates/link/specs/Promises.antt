@@ -14,10 +14,12 @@ use Rattle.state.specs.Gate.{after, After, refused}
 use Rattle.state.specs.Calls.{zeros, started, resynchronised}
 use Rattle.state.specs.Formed.{Sound}
 use Rattle.send.specs.Submit.{submitted}
+use Rattle.receive.specs.Steps.{freed}
 use Rattle.receive.specs.Take.{taken}
 use Rattle.clock.specs.Look.{looking, looked, acknowledgedNow}
 
--- "any two outcomes allowed are equal": each contract is an equation of this form, with `whole` a definition of the call's inputs alone
+-- "any two outcomes allowed are equal": each contract but start's, which is of its result alone, is an equation of this form, with `whole` a
+-- definition of the call's inputs alone
 abbrev pub Settled : Type 0 → Type 0
 Settled R =
     (told other : R) (slots otherSlots frame otherFrame : List ℕ) (whole : After R)
@@ -32,11 +34,12 @@ pub record ZeroRefused (slots frame : List ℕ) : Type 0 where
   pub acknowledge : acknowledgedNow zeros slots frame ≡ refused zeros outOfRange slots frame
   pub resynchronise : resynchronised zeros slots frame ≡ refused zeros outOfRange slots frame
 
--- "On a fresh end ACK 3 frees nothing.": it answers 0 and leaves all as it was
-abbrev pub AckThree : Type 0
-AckThree =
-    (s : Settings) (slots frame : List ℕ) (ms : ℕ) → inRange s ≡ true → slotsNeed s ≤ length slots → frameNeed s ≤ length frame
-    → taken (freshOf s) slots frame ms (ackFrame 3) ≡ refused (freshOf s) done slots frame
+-- "On a fresh end ACK 3 frees nothing.": a data frame that carries it leaves the end as it was in step 6, and to a control ACK the end
+-- answers 0 and leaves all as it was
+pub record AckThree (s : Settings) : Type 0 where
+  pub carried : freed (freshOf s) 3 ≡ freshOf s
+  pub control : (slots frame : List ℕ) (ms : ℕ) → inRange s ≡ true → slotsNeed s ≤ length slots → frameNeed s ≤ length frame
+      → taken (freshOf s) slots frame ms (ackFrame 3) ≡ refused (freshOf s) done slots frame
 
 -- every call leaves a sound state where it found one, whatever it is given; start makes one where it answers 0
 pub record Kept : Type 0 where

@@ -16,7 +16,7 @@ use Rattle.state.proofs.Facts.{gateOf-facts}
 use Rattle.send.specs.Repeat.{mayRepeat, Ready}
 use Rattle.send.proofs.Facts.{named-ready}
 use Rattle.send.specs.Makers.{silent, ends, sendsAck}
-use Rattle.receive.specs.Steps.{repeatable, acknowledgedBy, delivered}
+use Rattle.receive.specs.Steps.{repeatable, afterStep6, afterDelivery}
 use Rattle.receive.specs.Take.{repeatedOr, dataTaken}
 
 -- an open gate has room for a control frame
@@ -30,26 +30,26 @@ repeatable-ready l number slots frame o h e =
 
 -- also in the state after step 6, which a NAK leaves as it is
 pub nak-ready : (l : Link) (nak : Bool) (number slots frame : ℕ) → Open l slots frame → number ≤ 3 → (nak && repeatable l number) ≡ true
-    → Ready (acknowledgedBy l nak number) number slots frame
+    → Ready (afterStep6 l nak number) number slots frame
 nak-ready l true number slots frame o h e = repeatable-ready l number slots frame o h e
 nak-ready l false number slots frame o h e = absurd (true≢false (sym e))
 
 -- step 6 leaves the expected number
-pub acknowledgedBy-expected : (l : Link) (nak : Bool) (number : ℕ) → acknowledgedBy l nak number .expected ≡ l .expected
-acknowledgedBy-expected l true number = refl
-acknowledgedBy-expected l false number = refl
+pub afterStep6-expected : (l : Link) (nak : Bool) (number : ℕ) → afterStep6 l nak number .expected ≡ l .expected
+afterStep6-expected l true number = refl
+afterStep6-expected l false number = refl
 
 -- a data frame taken, of the state after step 6, the one after step 7, and whether a packet is repeated
-pub delivered-data : (l sixth seventh : Link) (slots frame : List ℕ) (ms number : ℕ) (nak repeat : Bool) (acknowledgement len : ℕ) (r : After Outcome)
-    → number ≡ l .expected → repeat ≡ repeatable l acknowledgement → sixth ≡ acknowledgedBy l nak acknowledgement → seventh ≡ delivered sixth ms
-    → r ≡ ends (repeatedOr (nak && repeat) seventh slots frame ms acknowledgement (silent seventh frame)) done len slots
-    → r ≡ dataTaken l slots frame ms number nak acknowledgement len
+pub delivered-data : (l sixth seventh : Link) (slots frame : List ℕ) (ms number : ℕ) (nak repeat : Bool) (acknowledged len : ℕ) (r : After Outcome)
+    → number ≡ l .expected → repeat ≡ repeatable l acknowledged → sixth ≡ afterStep6 l nak acknowledged → seventh ≡ afterDelivery sixth ms
+    → r ≡ ends (repeatedOr (nak && repeat) seventh slots frame ms acknowledged (silent seventh frame)) done len slots
+    → r ≡ dataTaken l slots frame ms number nak acknowledged len
 unfolding dataTaken
-delivered-data l sixth seventh slots frame ms number nak repeat acknowledgement len r n e six seven q = rw (eq-eqb number (l .expected) n) cc
+delivered-data l sixth seventh slots frame ms number nak repeat acknowledged len r n e six seven q = rw (eq-eqb number (l .expected) n) cc
 
-pub unexpected-data : (l sixth : Link) (slots frame : List ℕ) (ms number : ℕ) (nak repeat : Bool) (acknowledgement len : ℕ) (r : After Outcome)
-    → (number ≡ l .expected → ⊥) → repeat ≡ repeatable l acknowledgement → sixth ≡ acknowledgedBy l nak acknowledgement
-    → r ≡ ends (repeatedOr (nak && repeat) sixth slots frame ms acknowledgement (sendsAck sixth frame)) unexpected 0 slots
-    → r ≡ dataTaken l slots frame ms number nak acknowledgement len
+pub unexpected-data : (l sixth : Link) (slots frame : List ℕ) (ms number : ℕ) (nak repeat : Bool) (acknowledged len : ℕ) (r : After Outcome)
+    → (number ≡ l .expected → ⊥) → repeat ≡ repeatable l acknowledged → sixth ≡ afterStep6 l nak acknowledged
+    → r ≡ ends (repeatedOr (nak && repeat) sixth slots frame ms acknowledged (sendsAck sixth frame)) unexpected 0 slots
+    → r ≡ dataTaken l slots frame ms number nak acknowledged len
 unfolding dataTaken
-unexpected-data l sixth slots frame ms number nak repeat acknowledgement len r n e six q = rw (ne-eqb number (l .expected) n) cc
+unexpected-data l sixth slots frame ms number nak repeat acknowledged len r n e six q = rw (ne-eqb number (l .expected) n) cc

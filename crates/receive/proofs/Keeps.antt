@@ -21,7 +21,7 @@ use Rattle.state.proofs.Keeps.{changed-sound, gated-sound, renewed-sound}
 use Rattle.send.specs.Repeat.{mayRepeat}
 use Rattle.send.specs.Makers.{Sending, silent, ends, sendsAck}
 use Rattle.send.proofs.Keeps.{again-sound, quiet-sound, sendsNak-sound}
-use Rattle.receive.specs.Steps.{freed, repeatable, acknowledgedBy, delivered}
+use Rattle.receive.specs.Steps.{freed, repeatable, afterStep6, afterDelivery}
 use Rattle.receive.specs.Take.{repeatedOr, dataTaken, obeyed, taken}
 
 freed-sound : (l : Link) (number : ℕ) → Sound l → Sound (freed l number)
@@ -34,12 +34,12 @@ freed-sound l number s =
     fewer true e = omega (arith, ltb-true (behind l number) (l .waiting) e)
     fewer false e = omega arith
 
-acknowledgedBy-sound : (l : Link) (nak : Bool) (number : ℕ) → Sound l → Sound (acknowledgedBy l nak number)
-acknowledgedBy-sound l true number s = s
-acknowledgedBy-sound l false number s = freed-sound l number s
+afterStep6-sound : (l : Link) (nak : Bool) (number : ℕ) → Sound l → Sound (afterStep6 l nak number)
+afterStep6-sound l true number s = s
+afterStep6-sound l false number s = freed-sound l number s
 
-delivered-sound : (l : Link) (ms : ℕ) → Sound l → Sound (delivered l ms)
-delivered-sound l ms s =
+afterDelivery-sound : (l : Link) (ms : ℕ) → Sound l → Sound (afterDelivery l ms)
+afterDelivery-sound l ms s =
     let f : Formed l = wellFormed-facts l (s .formed) in
     changed-sound l (l .starts) (l .counts) (cond (l .acking) (l .ackstart) ms) ((l .expected + 1) % 4) (l .waiting) true false (l .lost) s
     (s .starts) (s .counts) (omega arith) (omega arith) (f .counts)
@@ -52,33 +52,33 @@ repeatedOr-sound true l slots frame ms number otherwise s m o = again-sound l nu
 repeatedOr-sound false l slots frame ms number otherwise s m o = o
 
 -- neither step 6 with a NAK nor step 7 touches what decides a repeat
-sixth-repeats : (l : Link) (nak : Bool) (number : ℕ) → (nak && repeatable l number) ≡ true → mayRepeat (acknowledgedBy l nak number) number ≡ true
+sixth-repeats : (l : Link) (nak : Bool) (number : ℕ) → (nak && repeatable l number) ≡ true → mayRepeat (afterStep6 l nak number) number ≡ true
 sixth-repeats l true number e = and-right (waits l number) (mayRepeat l number) e
 sixth-repeats l false number e = cc
 
-dataTaken-sound : (l : Link) (slots frame : List ℕ) (ms number : ℕ) (nak : Bool) (acknowledgement len : ℕ) → Sound l
-    → Sound (dataTaken l slots frame ms number nak acknowledgement len .told .state)
+dataTaken-sound : (l : Link) (slots frame : List ℕ) (ms number : ℕ) (nak : Bool) (acknowledged len : ℕ) → Sound l
+    → Sound (dataTaken l slots frame ms number nak acknowledged len .told .state)
 unfolding dataTaken
-dataTaken-sound l slots frame ms number nak acknowledgement len s = go (eqb number (l .expected))
+dataTaken-sound l slots frame ms number nak acknowledged len s = go (eqb number (l .expected))
   where
     repeat : Bool
-    repeat = nak && repeatable l acknowledgement
+    repeat = nak && repeatable l acknowledged
 
     sixth : Link
-    sixth = acknowledgedBy l nak acknowledgement
+    sixth = afterStep6 l nak acknowledged
 
     seventh : Link
-    seventh = delivered sixth ms
+    seventh = afterDelivery sixth ms
 
     go : (t : Bool)
-        → Sound (cond t (ends (repeatedOr repeat seventh slots frame ms acknowledgement (silent seventh frame)) done len slots)
-        (ends (repeatedOr repeat sixth slots frame ms acknowledgement (sendsAck sixth frame)) unexpected 0 slots) .told .state)
+        → Sound (cond t (ends (repeatedOr repeat seventh slots frame ms acknowledged (silent seventh frame)) done len slots)
+        (ends (repeatedOr repeat sixth slots frame ms acknowledged (sendsAck sixth frame)) unexpected 0 slots) .told .state)
     go true =
-        let s7 : Sound seventh = delivered-sound sixth ms (acknowledgedBy-sound l nak acknowledgement s) in
-        repeatedOr-sound repeat seventh slots frame ms acknowledgement (silent seventh frame) s7 (sixth-repeats l nak acknowledgement) s7
+        let s7 : Sound seventh = afterDelivery-sound sixth ms (afterStep6-sound l nak acknowledged s) in
+        repeatedOr-sound repeat seventh slots frame ms acknowledged (silent seventh frame) s7 (sixth-repeats l nak acknowledged) s7
     go false =
-        let s6 : Sound sixth = acknowledgedBy-sound l nak acknowledgement s in
-        repeatedOr-sound repeat sixth slots frame ms acknowledgement (sendsAck sixth frame) s6 (sixth-repeats l nak acknowledgement) (quiet-sound sixth s6)
+        let s6 : Sound sixth = afterStep6-sound l nak acknowledged s in
+        repeatedOr-sound repeat sixth slots frame ms acknowledged (sendsAck sixth frame) s6 (sixth-repeats l nak acknowledged) (quiet-sound sixth s6)
 
 obeyed-sound : (l : Link) (slots frame : List ℕ) (ms : ℕ) (h : Heard) → Sound l → Sound (obeyed l slots frame ms h .told .state)
 unfolding obeyed
@@ -91,7 +91,7 @@ obeyed-sound l slots frame ms Reset s = renewed-sound l s
 obeyed-sound l slots frame ms (Ack number) s = freed-sound l number s
 obeyed-sound l slots frame ms (Nak number) s =
     repeatedOr-sound (repeatable l number) l slots frame ms number (silent l frame) s (and-right (waits l number) (mayRepeat l number)) s
-obeyed-sound l slots frame ms (Data number nak acknowledgement len) s = dataTaken-sound l slots frame ms number nak acknowledgement len s
+obeyed-sound l slots frame ms (Data number nak acknowledged len) s = dataTaken-sound l slots frame ms number nak acknowledged len s
 
 pub taken-sound : (l : Link) (slots frame : List ℕ) (ms : ℕ) (received : List ℕ) → Sound l → Sound (taken l slots frame ms received .told .state)
 unfolding taken

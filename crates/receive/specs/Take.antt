@@ -13,7 +13,7 @@ use Rattle.state.specs.declared.Outcome.{Outcome}
 use Rattle.state.specs.State.{renewed}
 use Rattle.state.specs.Gate.{After, after, refused, gated, gateOf}
 use Rattle.send.specs.Makers.{Sending, silent, ends, sendsRepeat, sendsAck, sendsNak}
-use Rattle.receive.specs.Steps.{freed, repeatable, acknowledgedBy, delivered}
+use Rattle.receive.specs.Steps.{freed, repeatable, afterStep6, afterDelivery}
 
 -- "answer 6, NAK", "7, NAK"
 abbrev pub refusedWithNak : Link → List ℕ → List ℕ → Heard → After Outcome
@@ -35,13 +35,13 @@ nakObeyed l slots frame ms number = ends (repeatedOr (repeatable l number) l slo
 -- "7. Data: if its number is the expected one, it is delivered (the packet is the frame from byte 3, LEN bytes) .. Otherwise 9, and an ACK for
 -- the last correct number goes out." The states after steps 6 and 7 are named sixth and seventh.
 unfoldable pub dataTaken : Link → List ℕ → List ℕ → ℕ → ℕ → Bool → ℕ → ℕ → After Outcome
-dataTaken l slots frame ms number nak acknowledgement len =
-    let repeat : Bool = nak && repeatable l acknowledgement in
-    let sixth : Link = acknowledgedBy l nak acknowledgement in
-    let seventh : Link = delivered sixth ms in
+dataTaken l slots frame ms number nak acknowledged len =
+    let repeat : Bool = nak && repeatable l acknowledged in
+    let sixth : Link = afterStep6 l nak acknowledged in
+    let seventh : Link = afterDelivery sixth ms in
     cond (eqb number (l .expected))
-    (ends (repeatedOr repeat seventh slots frame ms acknowledgement (silent seventh frame)) done len slots)
-    (ends (repeatedOr repeat sixth slots frame ms acknowledgement (sendsAck sixth frame)) unexpected 0 slots)
+    (ends (repeatedOr repeat seventh slots frame ms acknowledged (silent seventh frame)) done len slots)
+    (ends (repeatedOr repeat sixth slots frame ms acknowledged (sendsAck sixth frame)) unexpected 0 slots)
 
 -- what was heard, obeyed
 unfoldable pub obeyed : Link → List ℕ → List ℕ → ℕ → Heard → After Outcome
@@ -54,7 +54,7 @@ obeyed l slots frame ms Length = refusedWithNak l slots frame Length
 obeyed l slots frame ms Reset = after (reset l) slots frame
 obeyed l slots frame ms (Ack number) = ends (silent (freed l number) frame) done 0 slots
 obeyed l slots frame ms (Nak number) = nakObeyed l slots frame ms number
-obeyed l slots frame ms (Data number nak acknowledgement len) = dataTaken l slots frame ms number nak acknowledgement len
+obeyed l slots frame ms (Data number nak acknowledged len) = dataTaken l slots frame ms number nak acknowledged len
 
 -- "Order: link calls 1, 2, 3, then .. the frame steps"
 unfoldable pub taken : Link → List ℕ → List ℕ → ℕ → List ℕ → After Outcome

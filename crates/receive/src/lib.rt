@@ -13,7 +13,7 @@ ghost use Rattle.base.specs.Answer.{done};
 ghost use Rattle.frame.specs.Steps.{acknowledgedIn};
 ghost use Rattle.send.specs.Makers.{sending, silent, sendsAck};
 ghost use Rattle.send.specs.Repeat.{Ready};
-ghost use Rattle.receive.specs.Steps.{freed, repeatable, acknowledgedBy, delivered};
+ghost use Rattle.receive.specs.Steps.{freed, repeatable, afterStep6, afterDelivery};
 ghost use Rattle.receive.specs.Take.{refusedWithNak, reset, repeatedOr, nakObeyed, dataTaken, obeyed, taken};
 
 // ---- step 6
@@ -40,7 +40,7 @@ fn is_repeatable(l: Link, number: u8) -> bool
 
 fn obey_acknowledgement(l: Link, nak: bool, number: u8) -> Link
     requires { ⌜ number ≤ 3 ⌝ }
-    ensures { λ r. ⌜ r ≡ acknowledgedBy l nak number ⌝ }
+    ensures { λ r. ⌜ r ≡ afterStep6 l nak number ⌝ }
 {
     if nak {
         return l;
@@ -52,7 +52,7 @@ fn obey_acknowledgement(l: Link, nak: bool, number: u8) -> Link
 
 fn deliver(l: Link, ms: u32) -> Link
     requires { ⌜ l .expected ≤ 3 ⌝ }
-    ensures { λ r. ⌜ r ≡ delivered l ms ⌝ }
+    ensures { λ r. ⌜ r ≡ afterDelivery l ms ⌝ }
 {
     let mut k = l;
     k.expected = (l.expected + 1) % 4;
@@ -99,21 +99,21 @@ fn take_data(
     ms: u32,
     number: u8,
     nak: bool,
-    acknowledgement: u8,
+    acknowledged: u8,
     len: u16,
 ) -> Outcome
-    requires { ⌜ (gateOf l (length (now slots)) (length (now frame)) ≡ done) × (acknowledgement ≤ 3) ⌝ }
-    ensures { λ r. ⌜ after r (now (slots .entry)) (now (frame .exit)) ≡ dataTaken l (now (slots .entry)) (now (frame .entry)) ms number nak acknowledgement len ⌝ }
+    requires { ⌜ (gateOf l (length (now slots)) (length (now frame)) ≡ done) × (acknowledged ≤ 3) ⌝ }
+    ensures { λ r. ⌜ after r (now (slots .entry)) (now (frame .exit)) ≡ dataTaken l (now (slots .entry)) (now (frame .entry)) ms number nak acknowledged len ⌝ }
 {
     // Step 6 decides on a repeat; its frame is made of the state after step 7.
-    let repeat = nak & is_repeatable(l, acknowledgement);
-    let sixth = obey_acknowledgement(l, nak, acknowledgement);
+    let repeat = nak & is_repeatable(l, acknowledged);
+    let sixth = obey_acknowledgement(l, nak, acknowledged);
     if number == l.expected {
         let seventh = deliver(sixth, ms);
-        let sent = repeat_or_nothing(seventh, slots, frame, ms, acknowledgement, repeat);
+        let sent = repeat_or_nothing(seventh, slots, frame, ms, acknowledged, repeat);
         return send::end(sent, answer::DONE, len);
     }
-    let sent = repeat_or_ack(sixth, slots, frame, ms, acknowledgement, repeat);
+    let sent = repeat_or_ack(sixth, slots, frame, ms, acknowledged, repeat);
     send::end(sent, answer::UNEXPECTED, 0)
 }
 

@@ -18,7 +18,7 @@ use Rattle.state.proofs.Facts.{slotOf-lt, wellFormed-facts, facts-wellFormed}
 use Rattle.state.proofs.Keeps.{changed-sound, marked-sound, gated-sound}
 use Rattle.send.specs.Repeat.{dataSent, again, mayRepeat}
 use Rattle.send.specs.Makers.{silent, sends, quiet, marked, sendsNak}
-use Rattle.send.specs.Submit.{submitGate, queued, sentFirst, accepted, submitted}
+use Rattle.send.specs.Submit.{submitGate, queued, sentFirst, packetAccepted, submitted}
 use Rattle.send.proofs.Facts.{Accepting, submitGate-facts}
 
 slot-small : (l : Link) (number : ℕ) → InRange (l .settings) → slotOf l number < 2
@@ -111,7 +111,7 @@ queued-sound l packet s lo hi place =
 pub submitted-sound : (l : Link) (slots frame : List ℕ) (ms : ℕ) (packet : List ℕ) → Sound l → Sound (submitted l slots frame ms packet .told .state)
 unfolding submitted
 submitted-sound l slots frame ms packet s =
-    gated-sound (submitGate l (length slots) (length frame) (length packet)) l slots frame (accepted l slots frame ms packet) s first
+    gated-sound (submitGate l (length slots) (length frame) (length packet)) l slots frame (packetAccepted l slots frame ms packet) s first
   where
     first : submitGate l (length slots) (length frame) (length packet) ≡ done → Sound (sentFirst l ms (length packet))
     first e =

@@ -1,4 +1,5 @@
--- The frames that an end sends besides a packet's first: a repeat, a control ACK, a control NAK. Document 01, "A received frame" and "Sending".
+-- The frames that an end sends besides a packet's first and the reset frame: a repeat, a control ACK, a control NAK.
+-- Document 01, "A received frame" and "Sending".
 use Prim.Native.Nat.{ℕ, _+_, _%_}
 use mathlib.Core.Bool.{cond, false, true}
 use mathlib.Core.List.{List}
@@ -7,6 +8,7 @@ use Rattle.base.specs.Buffer.{put}
 use Rattle.frame.specs.Bytes.{dataFrame, ackFrame, nakFrame}
 use Rattle.state.specs.declared.Link.{Link}
 use Rattle.state.specs.declared.Outcome.{Outcome}
+use Rattle.state.specs.Fields.{withAcking, withNaked}
 use Rattle.state.specs.State.{lastCorrect}
 use Rattle.state.specs.Gate.{After, after}
 use Rattle.send.specs.declared.Sent.{Sent}
@@ -39,38 +41,14 @@ sendsRepeat l slots frame ms number = sends (again l number ms) (dataFrame numbe
 
 -- "Every control ACK stops the acknowledge timer"
 abbrev pub quiet : Link → Link
-quiet l = record {
-  settings = l .settings;
-  starts = l .starts;
-  ackstart = l .ackstart;
-  lengths = l .lengths;
-  counts = l .counts;
-  next = l .next;
-  expected = l .expected;
-  waiting = l .waiting;
-  acking = false;
-  naked = l .naked;
-  lost = l .lost;
-}
+quiet l = withAcking l false
 
 abbrev pub sendsAck : Link → List ℕ → Sending
 sendsAck l frame = sends (quiet l) (ackFrame (lastCorrect l)) frame
 
 -- "a control NAK doesn't"; the mark that one was sent
 abbrev pub marked : Link → Link
-marked l = record {
-  settings = l .settings;
-  starts = l .starts;
-  ackstart = l .ackstart;
-  lengths = l .lengths;
-  counts = l .counts;
-  next = l .next;
-  expected = l .expected;
-  waiting = l .waiting;
-  acking = l .acking;
-  naked = true;
-  lost = l .lost;
-}
+marked l = withNaked l true
 
 -- "A NAK names the last correct number + 1, is always a control frame, and is sent at most once until the next delivery."
 abbrev pub sendsNak : Link → List ℕ → Sending

@@ -6,6 +6,7 @@ use lib.ListN.{take, drop, set}
 use lib.Dec.{ltb}
 use Rattle.state.specs.declared.Link.{Link}
 use Rattle.state.specs.Bounds.{limitOf}
+use Rattle.state.specs.Fields.{withStarts, withCounts, withAcking}
 use Rattle.state.specs.State.{slotOf, lengthOf, countOf}
 
 -- "the slot's part of the lent buffer beginning where the slot begins"
@@ -19,19 +20,8 @@ packetOf l slots number = take (lengthOf l number) (drop (partOf l number) slots
 -- "Each data frame, also a repeated one, carries ACK for the last correct number at that moment and stops the acknowledge timer." With it the
 -- packet's timer starts, at its first sending and at each repeat.
 abbrev pub dataSent : Link → ℕ → ℕ → ℕ → Link
-dataSent l number ms count = record {
-  settings = l .settings;
-  starts = set (l .starts) (slotOf l number) ms;
-  ackstart = l .ackstart;
-  lengths = l .lengths;
-  counts = set (l .counts) (slotOf l number) count;
-  next = l .next;
-  expected = l .expected;
-  waiting = l .waiting;
-  acking = false;
-  naked = l .naked;
-  lost = l .lost;
-}
+dataSent l number ms count =
+    withAcking (withCounts (withStarts l (set (l .starts) (slotOf l number) ms)) (set (l .counts) (slotOf l number) count)) false
 
 -- "A repeat adds 1 to its count and restarts its timer."
 abbrev pub again : Link → ℕ → ℕ → Link

@@ -11,6 +11,7 @@ use Rattle.frame.specs.Bytes.{dataFrame}
 use Rattle.state.specs.declared.Link.{Link}
 use Rattle.state.specs.declared.Outcome.{Outcome}
 use Rattle.state.specs.Bounds.{limitOf}
+use Rattle.state.specs.Fields.{withLengths, withNext, withWaiting}
 use Rattle.state.specs.State.{lastCorrect, slotOf}
 use Rattle.state.specs.Gate.{After, after, gated, gateOf}
 use Rattle.send.specs.Repeat.{partOf, dataSent}
@@ -27,19 +28,8 @@ submitGate l slots frame packet = firstOf (gateOf l slots frame) (packetGate l p
 
 -- one more packet waits, of this length, under the next number
 abbrev pub queued : Link → ℕ → Link
-queued l packet = record {
-  settings = l .settings;
-  starts = l .starts;
-  ackstart = l .ackstart;
-  lengths = set (l .lengths) (slotOf l (l .next)) packet;
-  counts = l .counts;
-  next = (l .next + 1) % 4;
-  expected = l .expected;
-  waiting = l .waiting + 1;
-  acking = l .acking;
-  naked = l .naked;
-  lost = l .lost;
-}
+queued l packet =
+    withWaiting (withNext (withLengths l (set (l .lengths) (slotOf l (l .next)) packet)) ((l .next + 1) % 4)) (l .waiting + 1)
 
 -- "It sends the frame, starts that packet's timer, and sets its repeat count to 0."
 abbrev pub sentFirst : Link → ℕ → ℕ → Link
@@ -47,8 +37,8 @@ sentFirst l ms packet = queued (dataSent l (l .next) ms 0) packet
 
 -- "Submit copies the packet to the slot numbered (frame number modulo WIN_SIZE), the slot's part of the lent buffer beginning where the slot
 -- begins; every other byte stays."
-abbrev pub accepted : Link → List ℕ → List ℕ → ℕ → List ℕ → After Outcome
-accepted l slots frame ms packet =
+abbrev pub packetAccepted : Link → List ℕ → List ℕ → ℕ → List ℕ → After Outcome
+packetAccepted l slots frame ms packet =
     after (record {
       state = sentFirst l ms (length packet);
       sent = length (dataFrame (l .next) (lastCorrect l) packet);
@@ -62,4 +52,4 @@ accepted l slots frame ms packet =
 unfoldable pub submitted : Link → List ℕ → List ℕ → ℕ → List ℕ → After Outcome
 unfolding submitGate
 submitted l slots frame ms packet =
-    gated (submitGate l (length slots) (length frame) (length packet)) l slots frame (accepted l slots frame ms packet)
+    gated (submitGate l (length slots) (length frame) (length packet)) l slots frame (packetAccepted l slots frame ms packet)

@@ -12,7 +12,7 @@ ghost use Rattle.state.specs.Gate.{after};
 ghost use Rattle.state.specs.State.{lengthOf, countOf};
 ghost use Rattle.send.specs.Repeat.{partOf, dataSent, mayRepeat, Ready};
 ghost use Rattle.send.specs.Makers.{sending, sendsRepeat, quiet, sendsAck, marked, sendsNak};
-ghost use Rattle.send.specs.Submit.{submitGate, queued, accepted, submitted};
+ghost use Rattle.send.specs.Submit.{submitGate, queued, packetAccepted, submitted};
 
 // A state, and the length of the frame that was sent with it, 0 for none.
 pub struct Sent {
@@ -171,7 +171,7 @@ fn store(l: Link, slots: &mut [u8], packet: &[u8])
 
 fn accept(l: Link, slots: &mut [u8], frame: &mut [u8], ms: u32, packet: &[u8]) -> Outcome
     requires { ⌜ submitGate l (length (now slots)) (length (now frame)) (length (now packet)) ≡ done ⌝ }
-    ensures { λ r. ⌜ after r (now (slots .exit)) (now (frame .exit)) ≡ accepted l (now (slots .entry)) (now (frame .entry)) ms (now (packet .entry)) ⌝ }
+    ensures { λ r. ⌜ after r (now (slots .exit)) (now (frame .exit)) ≡ packetAccepted l (now (slots .entry)) (now (frame .entry)) ms (now (packet .entry)) ⌝ }
 {
     store(l, slots, packet);
     let sent = frame::write_data(frame, l.next, state::last_correct(l), packet);

@@ -194,5 +194,5 @@ leb-left a b = go (leb a b) refl
     go false e = sym (ne-eqb (a - b) 0 (λ z. omega (arith, leb-false a b e)))
 
 -- due: the elapsed time, by a subtraction that wraps, is at least the timeout
-pub due-leb : (timeout start ms between : ℕ) → between ≡ elapsed ms start → leb timeout between ≡ due timeout start ms
-due-leb timeout start ms between e = rw e (leb-left timeout (elapsed ms start))
+pub due-leb : (timeout start ms between : ℕ) → between ≡ elapsed start ms → leb timeout between ≡ due timeout start ms
+due-leb timeout start ms between e = rw e (leb-left timeout (elapsed start ms))

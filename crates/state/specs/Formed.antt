@@ -1,4 +1,4 @@
--- What the tests of well-formedness and the gate say, as plain inequalities; proofs/Facts.antt shows it, and the way back.
+-- What the tests of well-formedness and the gate say, as plain inequalities; proofs/Facts.antt shows it, and of the first two the way back.
 use Prim.Native.Nat.{ℕ, _<_, _≤_}
 use mathlib.Core.Bool.{true, false}
 use mathlib.Core.Path.{_≡_}
@@ -42,7 +42,7 @@ pub record Open (l : Link) (slots frame : ℕ) : Type 0 where
   pub entered : Entered l slots frame
   pub alive : l .lost ≡ false
 
--- a state as code can hold it, with arrays of two elements, that is well formed
+-- a state whose arrays have two elements, as every state has that code can hold, and that is well formed (DECISIONS D80)
 pub record Sound (l : Link) : Type 0 where
   pub starts : length (l .starts) ≡ 2
   pub lengths : length (l .lengths) ≡ 2

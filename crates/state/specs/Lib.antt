@@ -1,5 +1,6 @@
 pub mod Bounds
 pub mod State
+pub mod Fields
 pub mod Gate
 pub mod Timer
 pub mod Calls

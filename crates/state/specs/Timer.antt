@@ -4,11 +4,11 @@ use mathlib.Core.Bool.{Bool}
 use lib.Dec.{eqb}
 
 abbrev pub elapsed : ℕ → ℕ → ℕ
-elapsed ms start = (ms + 4294967296 - start) % 4294967296
+elapsed start ms = (ms + 4294967296 - start) % 4294967296
 
 -- the milliseconds that are left of a timeout
 abbrev pub left : ℕ → ℕ → ℕ → ℕ
-left timeout start ms = timeout - elapsed ms start
+left timeout start ms = timeout - elapsed start ms
 
 -- due: none is left
 abbrev pub due : ℕ → ℕ → ℕ → Bool

@@ -10,10 +10,10 @@ use Rattle.clock.proofs.look_open.Statement.{statement}
 use Rattle.clock.proofs.look_open.Tie as tie
 
 is-packet-due-requires : tie.Need-is-packet-due-requires
-is-packet-due-requires c κs = let f = gateOf-facts _ _ _ (c .before .before .before .pre) .entered .formed in omega (arith, f .settings, f .waiting, c .oldest-waiting .ensures)
+is-packet-due-requires c κs = let f = gateOf-facts _ _ _ (c .before .before .before .pre) .entered .formed in omega (arith, f .settings, f .waiting, c .after-oldest .ensures)
 
 sent-before-requires : tie.Need-sent-before-requires
-sent-before-requires c κs = let f = gateOf-facts _ _ _ (c .before .before .before .before .before .before .pre) .entered .formed in omega (arith, f .settings, f .waiting, c .before .before .before .oldest-waiting .ensures)
+sent-before-requires c κs = let f = gateOf-facts _ _ _ (c .before .before .before .before .before .before .pre) .entered .formed in omega (arith, f .settings, f .waiting, c .before .before .before .after-oldest .ensures)
 
 serve-requires : tie.Need-serve-requires
 serve-requires c κs = let o = gateOf-facts _ _ _ (c .before .before .before .before .before .before .before .pre) in (
@@ -23,7 +23,7 @@ serve-requires c κs = let o = gateOf-facts _ _ _ (c .before .before .before .be
 
 returns : tie.Need-returns
 unfolding lookedAt
-returns c = rw (← c .before .before .before .before .before .before .before .oldest-waiting .ensures, ← c .before .before .before .before .before .before .is-packet-due .ensures, c .before .before .before .before .before .if1 .taken, ← c .before .before .before .sent-before .ensures .0) (c .before .before .serve .ensures)
+returns c = rw (← c .before .before .before .before .before .before .before .after-oldest .ensures, ← c .before .before .before .before .before .before .is-packet-due .ensures, c .before .before .before .before .before .if1 .taken, ← c .before .before .before .sent-before .ensures .0) (c .before .before .serve .ensures)
 
 is-packet-due-requires-2 : tie.Need-is-packet-due-requires-2
 is-packet-due-requires-2 c κs = let s = gateOf-facts _ _ _ (c .before .before .before .before .before .pre) .entered .formed .settings in omega (arith, s)
@@ -36,14 +36,14 @@ serve-requires-2 c κs = let o = gateOf-facts _ _ _ (c .before .before .before .
 
 returns-2 : tie.Need-returns-2
 unfolding lookedAt
-returns-2 c = rw (← c .before .before .before .before .before .before .before .before .before .oldest-waiting .ensures, ← c .before .before .before .before .before .before .before .before .is-packet-due .ensures, c .before .before .before .before .before .before .before .if1 .left, ← c .before .before .before .before .before .before .is-packet-due2 .ensures, c .before .before .before .before .before .if2 .taken, ← c .before .before .before .sent-before2 .ensures .0) (c .before .before .serve2 .ensures)
+returns-2 c = rw (← c .before .before .before .before .before .before .before .before .before .after-oldest .ensures, ← c .before .before .before .before .before .before .before .before .is-packet-due .ensures, c .before .before .before .before .before .before .before .if1 .left, ← c .before .before .before .before .before .before .is-packet-due2 .ensures, c .before .before .before .before .before .if2 .taken, ← c .before .before .before .sent-before2 .ensures .0) (c .before .before .serve2 .ensures)
 
 acknowledge-if-requires : tie.Need-acknowledge-if-requires
 acknowledge-if-requires c κs = let o = gateOf-facts _ _ _ (c .before .before .before .before .before .before .before .before .before .pre) in omega (arith, o .entered .frame-room, o .entered .formed .settings)
 
 returns-3 : tie.Need-returns-3
 unfolding lookedAt
-returns-3 c = rw (← c .before .before .before .before .before .before .before .before .before .oldest-waiting .ensures, ← c .before .before .before .before .before .before .before .before .is-packet-due .ensures, c .before .before .before .before .before .before .before .if1 .left, ← c .before .before .before .before .before .before .is-packet-due2 .ensures, c .before .before .before .before .before .if2 .left, ← c .before .before .before .is-acknowledge-due .ensures) (c .before .before .acknowledge-if .ensures)
+returns-3 c = rw (← c .before .before .before .before .before .before .before .before .before .after-oldest .ensures, ← c .before .before .before .before .before .before .before .before .is-packet-due .ensures, c .before .before .before .before .before .before .before .if1 .left, ← c .before .before .before .before .before .before .is-packet-due2 .ensures, c .before .before .before .before .before .if2 .left, ← c .before .before .before .is-acknowledge-due .ensures) (c .before .before .acknowledge-if .ensures)
 
 pub look-open-spec : {M : Type 1} → statement M
 look-open-spec = tie.close (tie.spec (λ c κs. search needs) is-packet-due-requires sent-before-requires serve-requires (λ c. search needs) returns is-packet-due-requires-2 (λ c κs. search needs) serve-requires-2 (λ c. search needs) returns-2 (λ c κs. search needs) acknowledge-if-requires (λ c. search needs) returns-3)

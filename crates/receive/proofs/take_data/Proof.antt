@@ -3,7 +3,7 @@
 use mathlib.Core.Path.{sym, ap, _∙_}
 use Rattle.state.proofs.Facts.{gateOf-facts}
 use Rattle.send.proofs.Facts.{ended}
-use Rattle.receive.proofs.Facts.{nak-ready, acknowledgedBy-expected, delivered-data, unexpected-data}
+use Rattle.receive.proofs.Facts.{nak-ready, afterStep6-expected, delivered-data, unexpected-data}
 use native.Mathlib.Omega.{arith}
 use borrow.Author.Needs.{needs}
 use Rattle.receive.proofs.take_data.Statement.{statement}
@@ -13,7 +13,7 @@ is-repeatable-requires : tie.Need-is-repeatable-requires
 is-repeatable-requires c κs = omega (arith, c .before .before .pre .1, gateOf-facts _ _ _ (c .before .before .pre .0) .entered .formed .settings)
 
 deliver-requires : tie.Need-deliver-requires
-deliver-requires c κs = rw (c .before .before .obey-acknowledgement .ensures, acknowledgedBy-expected) (gateOf-facts _ _ _ (c .before .before .before .before .before .before .pre .0) .entered .formed .expected)
+deliver-requires c κs = rw (c .before .before .obey-acknowledgement .ensures, afterStep6-expected) (gateOf-facts _ _ _ (c .before .before .before .before .before .before .pre .0) .entered .formed .expected)
 
 repeat-or-nothing-requires : tie.Need-repeat-or-nothing-requires
 repeat-or-nothing-requires c κs = rw (c .before .deliver .ensures, c .before .before .before .before .obey-acknowledgement .ensures, c .before .before .before .before .before .is-repeatable .ensures) (nak-ready _ (c .before .before .before .before .before .before .before .before .args .nak) _ _ _ (gateOf-facts _ _ _ (c .before .before .before .before .before .before .before .before .pre .0)) (c .before .before .before .before .before .before .before .before .pre .1))

@@ -1,0 +1,155 @@
+-- A state with one field set and the others as they were. No other room writes a state out field by field.
+use Prim.Native.Nat.{ℕ}
+use mathlib.Core.Bool.{Bool}
+use mathlib.Core.List.{List}
+use Rattle.state.specs.declared.Link.{Link}
+
+abbrev pub withStarts : Link → List ℕ → Link
+withStarts l starts = record {
+  settings = l .settings;
+  starts = starts;
+  ackstart = l .ackstart;
+  lengths = l .lengths;
+  counts = l .counts;
+  next = l .next;
+  expected = l .expected;
+  waiting = l .waiting;
+  acking = l .acking;
+  naked = l .naked;
+  lost = l .lost;
+}
+
+abbrev pub withAckstart : Link → ℕ → Link
+withAckstart l ackstart = record {
+  settings = l .settings;
+  starts = l .starts;
+  ackstart = ackstart;
+  lengths = l .lengths;
+  counts = l .counts;
+  next = l .next;
+  expected = l .expected;
+  waiting = l .waiting;
+  acking = l .acking;
+  naked = l .naked;
+  lost = l .lost;
+}
+
+abbrev pub withLengths : Link → List ℕ → Link
+withLengths l lengths = record {
+  settings = l .settings;
+  starts = l .starts;
+  ackstart = l .ackstart;
+  lengths = lengths;
+  counts = l .counts;
+  next = l .next;
+  expected = l .expected;
+  waiting = l .waiting;
+  acking = l .acking;
+  naked = l .naked;
+  lost = l .lost;
+}
+
+abbrev pub withCounts : Link → List ℕ → Link
+withCounts l counts = record {
+  settings = l .settings;
+  starts = l .starts;
+  ackstart = l .ackstart;
+  lengths = l .lengths;
+  counts = counts;
+  next = l .next;
+  expected = l .expected;
+  waiting = l .waiting;
+  acking = l .acking;
+  naked = l .naked;
+  lost = l .lost;
+}
+
+abbrev pub withNext : Link → ℕ → Link
+withNext l next = record {
+  settings = l .settings;
+  starts = l .starts;
+  ackstart = l .ackstart;
+  lengths = l .lengths;
+  counts = l .counts;
+  next = next;
+  expected = l .expected;
+  waiting = l .waiting;
+  acking = l .acking;
+  naked = l .naked;
+  lost = l .lost;
+}
+
+abbrev pub withExpected : Link → ℕ → Link
+withExpected l expected = record {
+  settings = l .settings;
+  starts = l .starts;
+  ackstart = l .ackstart;
+  lengths = l .lengths;
+  counts = l .counts;
+  next = l .next;
+  expected = expected;
+  waiting = l .waiting;
+  acking = l .acking;
+  naked = l .naked;
+  lost = l .lost;
+}
+
+abbrev pub withWaiting : Link → ℕ → Link
+withWaiting l waiting = record {
+  settings = l .settings;
+  starts = l .starts;
+  ackstart = l .ackstart;
+  lengths = l .lengths;
+  counts = l .counts;
+  next = l .next;
+  expected = l .expected;
+  waiting = waiting;
+  acking = l .acking;
+  naked = l .naked;
+  lost = l .lost;
+}
+
+abbrev pub withAcking : Link → Bool → Link
+withAcking l acking = record {
+  settings = l .settings;
+  starts = l .starts;
+  ackstart = l .ackstart;
+  lengths = l .lengths;
+  counts = l .counts;
+  next = l .next;
+  expected = l .expected;
+  waiting = l .waiting;
+  acking = acking;
+  naked = l .naked;
+  lost = l .lost;
+}
+
+abbrev pub withNaked : Link → Bool → Link
+withNaked l naked = record {
+  settings = l .settings;
+  starts = l .starts;
+  ackstart = l .ackstart;
+  lengths = l .lengths;
+  counts = l .counts;
+  next = l .next;
+  expected = l .expected;
+  waiting = l .waiting;
+  acking = l .acking;
+  naked = naked;
+  lost = l .lost;
+}
+
+abbrev pub withLost : Link → Bool → Link
+withLost l lost = record {
+  settings = l .settings;
+  starts = l .starts;
+  ackstart = l .ackstart;
+  lengths = l .lengths;
+  counts = l .counts;
+  next = l .next;
+  expected = l .expected;
+  waiting = l .waiting;
+  acking = l .acking;
+  naked = l .naked;
+  lost = lost;
+}
