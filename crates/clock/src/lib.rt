@@ -4,13 +4,13 @@ use state::Link;
 use state::Outcome;
 ghost use mathlib.Core.Path.{_≡_};
 ghost use mathlib.Core.Bool.{true};
-ghost use Prim.Native.Nat.{_+_, _-_, _≤_, _<_};
+ghost use Prim.Native.Nat.{_-_, _≤_, _<_};
 ghost use lib.ListN.{length};
 ghost use Rattle.base.specs.Answer.{done, linkLost};
 ghost use Rattle.state.specs.Fields.{withLost};
 ghost use Rattle.state.specs.Gate.{after, only, gateOf};
 ghost use Rattle.send.specs.Repeat.{mayRepeat, Ready};
-ghost use Rattle.clock.specs.Look.{packetDue, acknowledgeDue, afterOldest, exhausted, served, acknowledgedIf, lookedAt, looked, acknowledgedNow};
+ghost use Rattle.clock.specs.Look.{packetDue, acknowledgeDue, afterOldest, served, acknowledgedIf, lookedAt, looked, acknowledgedNow};
 
 // look's answer: a type of its own, so that it can tell more than the other calls' answers.
 pub struct Looked {

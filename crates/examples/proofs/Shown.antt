@@ -1,9 +1,58 @@
 -- Each row of the table, computed. Assumes nothing.
-use mathlib.Core.Path.{refl}
+use mathlib.Core.Path.{_≡_, refl, _∙_}
+use mathlib.Core.Bool.{true, false}
+use mathlib.Core.List.{List, [], _∷_}
+use Prim.Native.Nat.{ℕ, _≤_}
+use native.Mathlib.Omega.{arith}
+use borrow.Author.Tests.{le-ltb}
+use lib.ListN.{length}
+use lib.Dec.{ltb}
 use Rattle.fcs.specs.Checksum.{checksumOf}
-use Rattle.frame.specs.Bytes.{frameOf}
-use Rattle.examples.specs.Table.{Table}
+use Rattle.frame.specs.Bytes.{sealed, frameOf}
+use Rattle.frame.specs.Steps.{heard, judged}
+use Rattle.state.specs.declared.Link.{Link}
+use Rattle.state.specs.State.{freshOf}
+use Rattle.state.specs.Formed.{Formed, Sound}
+use Rattle.state.proofs.Facts.{inRange-facts, wellFormed-facts}
+use Rattle.state.proofs.Keeps.{fresh-sound, changed-sound, sound-open}
+use Rattle.receive.specs.Take.{obeyed, taken}
+use Rattle.receive.proofs.Facts.{taken-open}
+use Rattle.examples.specs.Table.{End, delivered0, Table}
+
+-- an end of the table that is not lost hears the frame
+opened : (e : End) (l : Link) (received : List ℕ) → Sound l → l .lost ≡ false → l .settings ≡ e .settings
+    → taken l (e .slots) (e .frame) (e .ms) received ≡ obeyed l (e .slots) (e .frame) (e .ms) (heard (l .settings .d) received)
+opened e l received s alive same =
+    taken-open l (e .slots) (e .frame) (e .ms) received
+    (sound-open l (length (e .slots)) (length (e .frame)) s alive (rw same (e .slots-room)) (rw same (e .frame-room)))
+
+fresh-end : (e : End) → Sound (freshOf (e .settings))
+fresh-end e = fresh-sound (e .settings) (inRange-facts (e .settings) (e .range))
+
+-- the end that example 8 leaves
+after-example8 : (e : End) → Sound (delivered0 e)
+unfolding freshOf
+after-example8 e =
+    let s : Sound (freshOf (e .settings)) = fresh-end e in
+    let f : Formed (freshOf (e .settings)) = wellFormed-facts (freshOf (e .settings)) (s .formed) in
+    changed-sound (freshOf (e .settings)) (0 ∷ 0 ∷ []) (0 ∷ 0 ∷ []) (e .ms) 1 0 true false false s refl refl (omega arith) (omega arith) (f .counts)
+
+-- D is at least 16
+longer : (e : End) (size : ℕ) → size ≤ 16 → ltb (e .settings .d) size ≡ false
+longer e size h = le-ltb (e .settings .d) size (omega (arith, inRange-facts (e .settings) (e .range) .d-lo))
 
 pub shown : Table
-unfolding checksumOf frameOf
-shown = record { example1 = refl; example2 = refl; example3 = refl; example4 = refl; example5 = refl; example6 = refl }
+unfolding checksumOf frameOf sealed freshOf heard judged obeyed
+shown = record {
+  example1 = refl;
+  example2 = refl;
+  example3 = refl;
+  example4 = refl;
+  example5 = refl;
+  example6 = refl;
+  example7-sum = refl;
+  example7 = λ e. opened e (freshOf (e .settings)) (0x00 ∷ 0x00 ∷ 0x00 ∷ 0x00 ∷ 0x00 ∷ []) (fresh-end e) refl refl ∙ rw (longer e 5 (omega arith));
+  example8 = λ e. opened e (freshOf (e .settings)) (0x03 ∷ 0x00 ∷ 0x01 ∷ 0x00 ∷ 0x15 ∷ 0x3C ∷ []) (fresh-end e) refl refl ∙ rw (longer e 6 (omega arith));
+  example9 = λ e. opened e (delivered0 e) (0x03 ∷ 0x00 ∷ 0x01 ∷ 0x00 ∷ 0x15 ∷ 0x3C ∷ []) (after-example8 e) refl refl ∙ rw (longer e 6 (omega arith));
+  example12 = refl;
+}

@@ -1,8 +1,39 @@
--- Document 01's examples, of the definitions, in one table. So far those of the checksum and of the frames' bytes.
-use mathlib.Core.List.{[], _∷_}
+-- Document 01's examples, of the definitions, in one table. So far all but 10 and 11, which are of chaining.
+use Prim.Native.Nat.{ℕ, _≤_}
+use mathlib.Core.Bool.{true, false}
+use mathlib.Core.List.{List, [], _∷_}
 use mathlib.Core.Path.{_≡_}
+use lib.ListN.{length}
+use Rattle.base.specs.Answer.{done, badFrame, unexpected}
+use Rattle.base.specs.Buffer.{put}
 use Rattle.fcs.specs.Checksum.{checksumOf}
 use Rattle.frame.specs.Bytes.{sealed, dataFrame, ackFrame, nakFrame, resetFrame}
+use Rattle.state.specs.declared.Settings.{Settings}
+use Rattle.state.specs.declared.Link.{Link}
+use Rattle.state.specs.declared.Outcome.{Outcome}
+use Rattle.state.specs.Bounds.{inRange, slotsNeed, frameNeed}
+use Rattle.state.specs.Fields.{withAckstart, withExpected, withAcking, withNaked}
+use Rattle.state.specs.State.{freshOf}
+use Rattle.state.specs.Gate.{after}
+use Rattle.state.specs.Timer.{elapsed}
+use Rattle.receive.specs.Take.{taken}
+
+-- a fresh end with any settings in range and buffers that are long enough, at any millisecond
+pub record End : Type 0 where
+  pub settings : Settings
+  pub slots : List ℕ
+  pub frame : List ℕ
+  pub ms : ℕ
+  pub range : inRange settings ≡ true
+  pub slots-room : slotsNeed settings ≤ length slots
+  pub frame-room : frameNeed settings ≤ length frame
+
+-- the state that example 8 leaves
+abbrev pub delivered0 : End → Link
+delivered0 e = withAcking (withAckstart (withExpected (freshOf (e .settings)) 1) (e .ms)) true
+
+abbrev pub told : Link → ℕ → ℕ → ℕ → Outcome
+told l answer sent delivered = record { state = l; sent = sent; delivered = delivered; dropped = 0; answer = answer }
 
 pub record Table : Type 0 where
   -- "The checksum of the ASCII digits 123456789 is 0x2189."
@@ -17,3 +48,16 @@ pub record Table : Type 0 where
   pub example5 : sealed (0xC0 ∷ 0x00 ∷ 0x00 ∷ []) ≡ resetFrame
   -- "03 00 01 00 ends 15 3C (data 0, ACK 3)."
   pub example6 : dataFrame 0 3 (0x00 ∷ []) ≡ 0x03 ∷ 0x00 ∷ 0x01 ∷ 0x00 ∷ 0x15 ∷ 0x3C ∷ []
+  -- "Five zero bytes have a right checksum; ..
+  pub example7-sum : sealed (0x00 ∷ 0x00 ∷ 0x00 ∷ []) ≡ 0x00 ∷ 0x00 ∷ 0x00 ∷ 0x00 ∷ 0x00 ∷ []
+  -- .. a fresh end answers 6 and sends example 4's frame."
+  pub example7 : (e : End) → taken (freshOf (e .settings)) (e .slots) (e .frame) (e .ms) (0x00 ∷ 0x00 ∷ 0x00 ∷ 0x00 ∷ 0x00 ∷ [])
+      ≡ after (told (withNaked (freshOf (e .settings)) true) badFrame 5 0) (e .slots) (put (e .frame) 0 (0xA0 ∷ 0x00 ∷ 0x00 ∷ 0xD7 ∷ 0x0F ∷ []))
+  -- "Example 6 at a fresh end is delivered."
+  pub example8 : (e : End) → taken (freshOf (e .settings)) (e .slots) (e .frame) (e .ms) (0x03 ∷ 0x00 ∷ 0x01 ∷ 0x00 ∷ 0x15 ∷ 0x3C ∷ [])
+      ≡ after (told (delivered0 e) done 0 1) (e .slots) (e .frame)
+  -- "The same again: 9, and example 2's frame goes out."
+  pub example9 : (e : End) → taken (delivered0 e) (e .slots) (e .frame) (e .ms) (0x03 ∷ 0x00 ∷ 0x01 ∷ 0x00 ∷ 0x15 ∷ 0x3C ∷ [])
+      ≡ after (told (withAcking (delivered0 e) false) unexpected 5 0) (e .slots) (put (e .frame) 0 (0x80 ∷ 0x00 ∷ 0x00 ∷ 0xEC ∷ 0x0C ∷ []))
+  -- "Start 4,294,967,290 and now 4: 10 ms elapsed."
+  pub example12 : elapsed 4294967290 4 ≡ 10

@@ -14,7 +14,7 @@ use Rattle.base.proofs.Tests.{or-right-false}
 use Rattle.frame.specs.declared.Heard.{Heard}
 use Rattle.frame.specs.declared.Heard.the-variants.{Size, Sum, Code, ControlSize, Length, Reset, Ack, Nak, Data}
 use Rattle.frame.specs.Bytes.{lenBytes, fcsBytes, sealed, frameOf, resetFrame}
-use Rattle.frame.specs.Steps.{fctrOf, lenOf, sameBytes, fcsAt, isControl, isNak, isReset, numberOf, acknowledgedOf, used, accepted, judged, heard, packetIn, lenIn, acknowledgedIn}
+use Rattle.frame.specs.Steps.{fctrOf, lenOf, sameBytes, fcsAt, isControl, isNak, isReset, numberOf, acknowledgedOf, used, accepted, judged, heard, lenIn, acknowledgedIn}
 use Rattle.frame.specs.Promises.{DataHeard, AckHeard, NakHeard, ResetHeard, PacketHeard, LengthHeard, NumberHeard}
 use Rattle.frame.proofs.Writing.{sealed-length, frameOf-length}
 

@@ -3,10 +3,12 @@ use mathlib.Core.Path.{_≡_, refl, sym}
 use mathlib.Core.Bool.{Bool, true, false, true≢false, _&&_}
 use mathlib.Core.List.{List}
 use Prim.Native.Nat.{ℕ, _≤_}
+use lib.ListN.{length}
 use native.Mathlib.Omega.{arith}
 use borrow.Author.Tests.{eq-eqb, ne-eqb}
 use Rattle.base.specs.Answer.{done, unexpected}
 use Rattle.base.proofs.Tests.{and-left, and-right}
+use Rattle.frame.specs.Steps.{heard}
 use Rattle.state.specs.declared.Link.{Link}
 use Rattle.state.specs.State.{waits}
 use Rattle.state.specs.declared.Outcome.{Outcome}
@@ -17,11 +19,17 @@ use Rattle.send.specs.Repeat.{mayRepeat, Ready}
 use Rattle.send.proofs.Facts.{named-ready}
 use Rattle.send.specs.Makers.{silent, ends, sendsAck}
 use Rattle.receive.specs.Steps.{repeatable, afterStep6, afterDelivery}
-use Rattle.receive.specs.Take.{repeatedOr, dataTaken}
+use Rattle.receive.specs.Take.{repeatedOr, dataTaken, obeyed, taken}
 
 -- an open gate has room for a control frame
 pub frame-room : (l : Link) (slots frame : ℕ) → gateOf l slots frame ≡ done → 5 ≤ frame
 frame-room l slots frame e = let o = gateOf-facts l slots frame e in omega (arith, o .entered .frame-room, o .entered .formed .settings)
+
+-- take behind an open gate
+pub taken-open : (l : Link) (slots frame : List ℕ) (ms : ℕ) (received : List ℕ) → gateOf l (length slots) (length frame) ≡ done
+    → taken l slots frame ms received ≡ obeyed l slots frame ms (heard (l .settings .d) received)
+unfolding taken
+taken-open l slots frame ms received e = rw e
 
 -- what step 6 would repeat can be repeated
 pub repeatable-ready : (l : Link) (number slots frame : ℕ) → Open l slots frame → number ≤ 3 → repeatable l number ≡ true → Ready l number slots frame

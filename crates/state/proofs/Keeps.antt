@@ -4,16 +4,16 @@ use mathlib.Core.Bool.{Bool, true, false, cond, not}
 use mathlib.Core.List.{List}
 use Prim.Native.Nat.{ℕ, zero, suc, _<_, _≤_}
 use native.Mathlib.Omega.{arith}
-use borrow.Author.Tests.{eqb-true}
+use borrow.Author.Tests.{eqb-true, le-ltb}
 use lib.ListN.{length, getD}
 use lib.Dec.{eqb, ltb}
 use Rattle.base.specs.Answer.{done, outOfRange, shortBuffer}
 use Rattle.state.specs.declared.Settings.{Settings}
 use Rattle.state.specs.declared.Link.{Link}
 use Rattle.state.specs.declared.Outcome.{Outcome}
-use Rattle.state.specs.Bounds.{inRange, slotsNeed}
-use Rattle.state.specs.State.{freshOf, wellFormed}
-use Rattle.state.specs.Gate.{After, only, refused, gated, entryOf}
+use Rattle.state.specs.Bounds.{inRange, slotsNeed, frameNeed}
+use Rattle.state.specs.State.{freshOf}
+use Rattle.state.specs.Gate.{After, only, refused, gated, entryOf, gateOf}
 use Rattle.state.specs.Calls.{zeros, started, resetSent, resynchronised}
 use Rattle.state.specs.Formed.{InRange, Formed, Sound}
 use Rattle.state.proofs.Facts.{inRange-facts, wellFormed-facts, facts-wellFormed}
@@ -95,6 +95,12 @@ gated-sound answer l slots frame inside s f = go (eqb answer done) refl
     go : (t : Bool) → eqb answer done ≡ t → Sound (cond t inside (refused l answer slots frame) .told .state)
     go true e = f (eqb-true answer done e)
     go false e = s
+
+-- a sound end that is not lost passes it, with buffers that are long enough
+pub sound-open : (l : Link) (slots frame : ℕ) → Sound l → l .lost ≡ false → slotsNeed (l .settings) ≤ slots → frameNeed (l .settings) ≤ frame
+    → gateOf l slots frame ≡ done
+unfolding gateOf entryOf
+sound-open l slots frame s alive h k = rw (s .formed, le-ltb slots (slotsNeed (l .settings)) h, le-ltb frame (frameNeed (l .settings)) k, alive)
 
 -- ---- start and resynchronise
 

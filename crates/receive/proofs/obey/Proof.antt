@@ -1,8 +1,7 @@
 -- `receive::obey` meets its contract.
 -- Assumes nothing.
-use Rattle.state.proofs.Facts.{gateOf-facts}
-use mathlib.Core.Path.{subst, _≡_}
-use Prim.Native.Nat.{ℕ, _≤_}
+use mathlib.Core.Path.{subst}
+use Prim.Native.Nat.{_≤_}
 use Rattle.frame.specs.Steps.{acknowledgedIn}
 use Rattle.receive.specs.Take.{obeyed}
 use Rattle.receive.proofs.Facts.{frame-room}

@@ -1,6 +1,5 @@
 -- `receive::take_data` meets its contract.
 -- Assumes nothing.
-use mathlib.Core.Path.{sym, ap, _∙_}
 use Rattle.state.proofs.Facts.{gateOf-facts}
 use Rattle.send.proofs.Facts.{ended}
 use Rattle.receive.proofs.Facts.{nak-ready, afterStep6-expected, delivered-data, unexpected-data}
