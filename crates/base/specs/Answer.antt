@@ -1,4 +1,4 @@
--- The numbers that the link's calls return, each with its words of document 01's table, "Numbers returned", which also says what it leaves.
+-- The numbers that the link's calls and the two of chaining return, each with its words of document 01's table, "Numbers returned", which also says what it leaves.
 use Prim.Native.Nat.{ℕ}
 use mathlib.Core.Bool.{cond}
 use lib.Dec.{eqb}
@@ -42,6 +42,31 @@ controlSize = 8
 -- "frame step 7"
 abbrev pub unexpected : ℕ
 unexpected = 9
+
+-- "10, 14, 15 | chain fault, too long, fault told by peer"
+abbrev pub chainFault : ℕ
+chainFault = 10
+
+abbrev pub tooLong : ℕ
+tooLong = 14
+
+abbrev pub faultTold : ℕ
+faultTold = 15
+
+-- "11, 12 | channel, secured"
+abbrev pub otherChannel : ℕ
+otherChannel = 11
+
+abbrev pub securedPacket : ℕ
+securedPacket = 12
+
+-- "APDU of 0 or more than 4,096"
+abbrev pub messageSize : ℕ
+messageSize = 13
+
+-- "i not below the packet count"
+abbrev pub noSuchPacket : ℕ
+noSuchPacket = 16
 
 -- "Order: ..": the first of two answers that refuses
 abbrev pub firstOf : ℕ → ℕ → ℕ

@@ -1,4 +1,4 @@
-// The numbers that the link's calls return, a name for each. specs/Answer.antt has the same names for the contracts.
+// The numbers that the link's calls and the two of chaining return, a name for each. specs/Answer.antt has the same names for the contracts.
 pub const DONE: u8 = 0;
 
 pub const OUT_OF_RANGE: u8 = 1;
@@ -18,3 +18,17 @@ pub const UNUSED_CODE: u8 = 7;
 pub const CONTROL_SIZE: u8 = 8;
 
 pub const UNEXPECTED: u8 = 9;
+
+pub const CHAIN_FAULT: u8 = 10;
+
+pub const OTHER_CHANNEL: u8 = 11;
+
+pub const SECURED: u8 = 12;
+
+pub const MESSAGE_SIZE: u8 = 13;
+
+pub const TOO_LONG: u8 = 14;
+
+pub const FAULT_TOLD: u8 = 15;
+
+pub const NO_SUCH_PACKET: u8 = 16;

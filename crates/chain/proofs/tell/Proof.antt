@@ -1,0 +1,14 @@
+-- `chain::tell` meets its contract.
+-- Assumes nothing.
+use borrow.Author.Needs.{needs}
+use Rattle.chain.proofs.tell.Statement.{statement}
+use Rattle.chain.proofs.tell.Tie as tie
+
+returns : tie.Need-returns
+returns c = rw (← c .before .before .place-of .ensures .0, c .before .if1 .taken, c .fresh-joining .ensures)
+
+returns-2 : tie.Need-returns-2
+returns-2 c = rw (← c .before .place-of .ensures .0, c .if1 .left)
+
+pub tell-spec : {M : Type 1} → statement M
+tell-spec = tie.close (tie.spec (λ c κs. search needs) (λ c. search needs) (λ c. search needs) (λ c. search needs) (λ c κs. search needs) returns returns-2)

@@ -1,0 +1,4 @@
+pub mod Pctr
+pub mod Cut
+pub mod Join
+pub mod Promises

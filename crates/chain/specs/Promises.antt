@@ -1,0 +1,82 @@
+-- What is promised of cutting and joining together; proofs/Rejoining.antt proves each.
+use Prim.Native.Nat.{ℕ, zero, suc, _<_, _≤_}
+use mathlib.Core.Bool.{true, false, cond}
+use mathlib.Core.List.{List, [], _∷_, _++_}
+use mathlib.Core.Path.{_≡_}
+use lib.ListN.{length, take}
+use lib.Dec.{eqb}
+use Rattle.base.specs.Answer.{done}
+use Rattle.chain.specs.declared.Joining.{Joining}
+use Rattle.chain.specs.Cut.{limitOk, longest, packetCount, packetsTo, packetsOf, cutOut}
+use Rattle.chain.specs.Join.{freshJoining, joined}
+
+-- ---- cutting gives exactly the packets of the message
+
+-- the bytes that cut leaves in a packet buffer for packets 0, 1, .., as many as are asked for
+abbrev pub cutsTo : ℕ → List ℕ → List ℕ → ℕ → List (List ℕ)
+cutsTo m message buffer zero = []
+cutsTo m message buffer (suc k) =
+    cutsTo m message buffer k ++ (take (cutOut m message k buffer .told .length) (cutOut m message k buffer .buffer) ∷ [])
+
+abbrev pub CutsAll : Type 0
+CutsAll =
+    (m : ℕ) (message buffer : List ℕ) → limitOk m ≡ true → m ≤ length buffer → 1 ≤ length message → length message ≤ longest
+    → cutsTo m message buffer (packetCount m (length message)) ≡ packetsOf m message
+
+-- ---- joining them gives the message
+
+-- who joins packet by packet, each time with the state and the room that the last joining left; and what the calls have told so far: every
+-- answer, and the bytes of each message that was told, as the room then held them
+pub record Reader : Type 0 where
+  pub state : Joining
+  pub room : List ℕ
+  pub answers : List ℕ
+  pub messages : List (List ℕ)
+
+abbrev pub messageIn : ℕ → List ℕ → List (List ℕ)
+messageIn len room = cond (eqb len 0) [] (take len room ∷ [])
+
+abbrev pub readOne : ℕ → Reader → List ℕ → Reader
+readOne m r packet = record {
+  state = joined m (r .state) packet (r .room) .told .state;
+  room = joined m (r .state) packet (r .room) .room;
+  answers = r .answers ++ (joined m (r .state) packet (r .room) .told .answer ∷ []);
+  messages = r .messages ++ messageIn (joined m (r .state) packet (r .room) .told .length) (joined m (r .state) packet (r .room) .room);
+}
+
+abbrev pub readAll : ℕ → Reader → List (List ℕ) → Reader
+readAll m r [] = r
+readAll m r (packet ∷ packets) = readAll m (readOne m r packet) packets
+
+-- no chain open, a joined length of at most 4,096, and a room that is long enough
+pub record Idle (r : Reader) : Type 0 where
+  pub closed : r .state .opened ≡ false
+  pub small : r .state .joined ≤ longest
+  pub enough : longest ≤ length (r .room)
+
+-- so many answers 0
+abbrev pub dones : ℕ → List ℕ
+dones zero = []
+dones (suc k) = dones k ++ (done ∷ [])
+
+-- After all packets of a message, in order: 0 to each, this message and no other, none open, and a room as long as before.
+pub record Rejoined (m : ℕ) (message : List ℕ) (r s : Reader) : Type 0 where
+  pub answers : s .answers ≡ r .answers ++ dones (packetCount m (length message))
+  pub messages : s .messages ≡ r .messages ++ (message ∷ [])
+  pub state : s .state ≡ freshJoining
+  pub enough : length (s .room) ≡ length (r .room)
+
+abbrev pub RejoinsAll : Type 0
+RejoinsAll =
+    (m : ℕ) (message : List ℕ) (r : Reader) → limitOk m ≡ true → 1 ≤ length message → length message ≤ longest → Idle r
+    → Rejoined m message r (readAll m r (packetsOf m message))
+
+-- After fewer of them, the first k: 0 to each, and no message.
+pub record Unfinished (k : ℕ) (r s : Reader) : Type 0 where
+  pub answers : s .answers ≡ r .answers ++ dones k
+  pub messages : s .messages ≡ r .messages
+
+abbrev pub NoneBefore : Type 0
+NoneBefore =
+    (m : ℕ) (message : List ℕ) (r : Reader) (k : ℕ) → limitOk m ≡ true → 1 ≤ length message → length message ≤ longest → Idle r
+    → k < packetCount m (length message) → Unfinished k r (readAll m r (packetsTo m message k))
