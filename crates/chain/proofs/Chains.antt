@@ -1,10 +1,10 @@
--- What the gates of joining say where they are open. Assumes nothing.
-use mathlib.Core.Path.{_≡_}
+-- What the gates of joining say where they are open; the calls alone. Assumes nothing.
+use mathlib.Core.Path.{_≡_, refl, sym, ap, _∙_}
 use mathlib.Core.Bool.{Bool, true, false, cond, _&&_}
 use mathlib.Core.List.{List}
-use Prim.Native.Nat.{ℕ, _<_, _≤_}
+use Prim.Native.Nat.{ℕ, _≤_}
 use native.Mathlib.Omega.{arith}
-use borrow.Author.Tests.{ltb-false}
+use borrow.Author.Tests.{ltb-false, eqb-true}
 use lib.ListN.{length, getD}
 use lib.Dec.{ltb, leb, eqb}
 use Rattle.base.specs.Range.{within}
@@ -12,8 +12,9 @@ use Rattle.base.specs.Answer.{done, outOfRange, shortBuffer, packetSize, otherC
 use Rattle.base.proofs.Tests.{and-left, within-low, within-high, passed, spared, firstOf-left, firstOf-right}
 use Rattle.chain.specs.declared.Joining.{Joining}
 use Rattle.chain.specs.Pctr.{channelOf, securedOf, chainOf, fault}
-use Rattle.chain.specs.Cut.{limitOk, longest}
-use Rattle.chain.specs.Join.{joinGate, begins, faulty, joinedTo, chainGate}
+use Rattle.chain.specs.Cut.{limitOk, longest, Cutting}
+use Rattle.chain.specs.Join.{freshJoining, Joins, joins, dropsChain, refusal, joinGate, begins, finishes, faulty, joinedTo, chainGate, partTold, partJoined, joinedPart, joined}
+use Rattle.chain.specs.Promises.{CutSettled, JoinSettled, JoinKept}
 
 pub record Joinable (packet bytes : ℕ) : Type 0 where
   pub least : 1 ≤ packet
@@ -31,7 +32,7 @@ joinGate-facts m j packet room e =
     let e2 : firstOf two (firstOf three four) ≡ done = firstOf-right one (firstOf two (firstOf three four)) e in
     let e3 : firstOf three four ≡ done = firstOf-right two (firstOf three four) e2 in
     let m-ok : limitOk m ≡ true =
-        and-left (limitOk m) (leb (j .joined) longest) (passed ok outOfRange (omega arith) (firstOf-left one (firstOf two (firstOf three four)) e)) in
+    and-left (limitOk m) (leb (j .joined) longest) (passed ok outOfRange (omega arith) (firstOf-left one (firstOf two (firstOf three four)) e)) in
     let size : within 1 (length packet) m ≡ true = passed (within 1 (length packet) m) packetSize (omega arith) (firstOf-left three four e3) in
     record {
       least = within-low 1 (length packet) m size;
@@ -50,3 +51,52 @@ chainGate-fits m j pctr size e =
     let e2 : firstOf two (firstOf three four) ≡ done = firstOf-right one (firstOf two (firstOf three four)) e in
     let e3 : firstOf three four ≡ done = firstOf-right two (firstOf three four) e2 in
     ltb-false longest (joinedTo j (chainOf pctr) size) (spared long tooLong (omega arith) (firstOf-right three four e3))
+
+-- ---- the calls alone
+
+pub cut-settled : CutSettled
+cut-settled told other buffer otherBuffer all p q =
+    let e = p ∙ sym q in
+    (ap (λ (c : Cutting). c .told) e, ap (λ (c : Cutting). c .buffer) e)
+
+pub join-settled : JoinSettled
+join-settled told other room otherRoom all p q =
+    let e = p ∙ sym q in
+    (ap (λ (j : Joins). j .told) e, ap (λ (j : Joins). j .room) e)
+
+refusal-kept : (j : Joining) (answer : ℕ) → j .joined ≤ longest → refusal j answer .state .joined ≤ longest
+refusal-kept j answer h = go (dropsChain answer)
+  where
+    go : (t : Bool) → cond t freshJoining j .joined ≤ longest
+    go true = omega arith
+    go false = h
+
+part-kept : (j : Joining) (chain size : ℕ) → joinedTo j chain size ≤ longest → partTold j chain size .state .joined ≤ longest
+part-kept j chain size h = go (finishes chain)
+  where
+    go : (t : Bool) → cond t freshJoining (record { joined = joinedTo j chain size; opened = true }) .joined ≤ longest
+    go true = omega arith
+    go false = h
+
+joinedPart-kept : (m : ℕ) (j : Joining) (packet room : List ℕ) → j .joined ≤ longest → joinedPart m j packet room .told .state .joined ≤ longest
+unfolding joinedPart
+joinedPart-kept m j packet room h = go (eqb answer done) refl
+  where
+    answer : ℕ
+    answer = chainGate m j (getD packet 0 0) (length packet)
+
+    go : (t : Bool) → eqb answer done ≡ t
+        → cond t (partJoined j packet (chainOf (getD packet 0 0)) room) (joins (refusal j answer) room) .told .state .joined ≤ longest
+    go true e = part-kept j (chainOf (getD packet 0 0)) (length packet) (chainGate-fits m j (getD packet 0 0) (length packet) (eqb-true answer done e))
+    go false e = refusal-kept j answer h
+
+pub join-kept : JoinKept
+unfolding joined
+join-kept m j packet room h = go (eqb answer done)
+  where
+    answer : ℕ
+    answer = joinGate m j packet (length room)
+
+    go : (t : Bool) → cond t (joinedPart m j packet room) (joins (refusal j answer) room) .told .state .joined ≤ longest
+    go true = joinedPart-kept m j packet room h
+    go false = refusal-kept j answer h

@@ -1,20 +1,20 @@
 -- The parts of a message: how many, where they begin, how long they are. Assumes nothing.
 use mathlib.Core.Path.{_≡_, refl, sym, ap, _∙_}
-use mathlib.Core.Bool.{Bool, true, false, cond, _&&_}
+use mathlib.Core.Bool.{Bool, true, false, cond}
 use mathlib.Core.List.{List, [], _∷_}
-use Prim.Native.Nat.{ℕ, zero, suc, _+_, _-_, _*_, _/_, _<_, _≤_}
+use Prim.Native.Nat.{ℕ, suc, _+_, _-_, _*_, _<_, _≤_}
 use native.Mathlib.Nat.{div-mul-le-self, div-le-self, lt-div-mul-add, mul-le-mul-right, suc-mul}
 use native.Mathlib.Omega.{arith}
-use borrow.Author.Tests.{ltb-true, ltb-false, leb-true}
+use borrow.Author.Tests.{ltb-true, ltb-false}
 use lib.ListN.{length, take, drop, set, length-take, length-drop}
 use lib.Seq.{take-length, take-all}
-use lib.Dec.{ltb, leb, eqb}
+use lib.Dec.{ltb}
 use Rattle.base.specs.Range.{within}
 use Rattle.base.specs.Buffer.{put}
 use Rattle.base.proofs.Put.{put-length, put-put, put-sets}
-use Rattle.base.specs.Answer.{done, outOfRange, shortBuffer, packetSize, messageSize, noSuchPacket, otherChannel, firstOf}
-use Rattle.base.proofs.Tests.{and-left, and-right, within-low, within-high, passed, spared, firstOf-left, firstOf-right}
-use Rattle.chain.specs.Cut.{limitOk, longest, leastOf, partSize, packetCount, chainAt, packetAt, cutGate, Cutting, cutting, given}
+use Rattle.base.specs.Answer.{done, outOfRange, shortBuffer, messageSize, noSuchPacket, firstOf}
+use Rattle.base.proofs.Tests.{within-low, within-high, passed, spared, firstOf-left, firstOf-right}
+use Rattle.chain.specs.Cut.{limitOk, longest, leastOf, partSize, packetCount, chainAt, packetAt, cutGate, cutting, given}
 use Rattle.chain.specs.Pctr.{pctrOf}
 
 -- ---- how many

@@ -1,24 +1,22 @@
 -- Cutting gives the packets of a message, and joining them gives the message. Assumes nothing.
 use mathlib.Core.Path.{_≡_, refl, sym, ap, subst, _∙_}
-use mathlib.Core.Bool.{Bool, true, false, cond, not, _&&_, _||_}
+use mathlib.Core.Bool.{true, false, cond}
 use mathlib.Core.List.{List, [], _∷_, _++_, append-assoc, append-nil}
 use Prim.Native.Nat.{ℕ, zero, suc, _+_, _-_, _*_, _/_, _%_, _<_, _≤_}
 use native.Mathlib.Nat.{suc-mul, zero-mul}
 use native.Mathlib.Omega.{arith}
 use borrow.Author.Tests.{le-leb, le-ltb, lt-ltb, eq-eqb, ne-eqb}
-use lib.ListN.{length, take, drop, getD, length-drop, length-take}
+use lib.ListN.{length, take, drop, length-drop, length-take}
 use lib.Seq.{take-add, take-all}
-use lib.Dec.{eqb, leb, ltb}
 use Rattle.base.specs.Answer.{done}
-use Rattle.base.specs.Range.{within}
 use Rattle.base.specs.Buffer.{put}
 use Rattle.base.proofs.Put.{put-length, put-take}
-use Rattle.base.proofs.Tests.{within-low, within-high}
+use Rattle.base.proofs.Tests.{within-low}
 use Rattle.chain.specs.declared.Joining.{Joining}
-use Rattle.chain.specs.Pctr.{channelOf, securedOf, chainOf, pctrOf, whole, first, middle, last, fault}
-use Rattle.chain.specs.Cut.{limitOk, longest, partSize, packetCount, chainAt, partAt, packetAt, packetsTo, packetsOf, cutGate, given, cutOut}
-use Rattle.chain.specs.Join.{freshJoining, Joins, joins, joinGate, begins, goesOn, finishes, faulty, placeOf, joinedTo, chainGate, partTold, partJoined, joinedPart, joined}
-use Rattle.chain.specs.Promises.{cutsTo, CutsAll, Reader, messageIn, readOne, readAll, Idle, dones, Rejoined, RejoinsAll, Unfinished, NoneBefore}
+use Rattle.chain.specs.Pctr.{pctrOf, whole, first, middle, last}
+use Rattle.chain.specs.Cut.{limitOk, longest, partSize, packetCount, chainAt, partAt, packetAt, packetsTo, cutGate, given, cutOut}
+use Rattle.chain.specs.Join.{freshJoining, joinGate, finishes, faulty, placeOf, joinedTo, chainGate, partJoined, joinedPart, joined}
+use Rattle.chain.specs.Promises.{cutsTo, CutsAll, Reader, messageIn, readOne, readAll, Idle, dones, Rejoined, RejoinsAll, NoneBefore}
 use Rattle.chain.proofs.Parts.{part-inside, parts-all}
 
 -- ---- cutting
@@ -98,17 +96,17 @@ read-one : (m k chain : ℕ) (message : List ℕ) (s : Reader) (part : List ℕ)
     → 1 ≤ length part → length part + 1 ≤ m → chain ≤ 4 → faulty m (s .state .opened) chain (suc (length part)) ≡ false
     → placeOf (s .state) chain ≡ k * partSize m → k * partSize m + length part ≤ longest
     → readOne m s (pctrOf 0 chain ∷ part) ≡ record {
-        state = cond (finishes chain) freshJoining (record { joined = k * partSize m + length part; opened = true });
-        room = put (s .room) (k * partSize m) part;
-        answers = s .answers ++ (done ∷ []);
-        messages = s .messages ++ messageIn (cond (finishes chain) (k * partSize m + length part) 0) (put (s .room) (k * partSize m) part);
-      }
+      state = cond (finishes chain) freshJoining (record { joined = k * partSize m + length part; opened = true });
+      room = put (s .room) (k * partSize m) part;
+      answers = s .answers ++ (done ∷ []);
+      messages = s .messages ++ messageIn (cond (finishes chain) (k * partSize m + length part) 0) (put (s .room) (k * partSize m) part);
+    }
 read-one m k chain message s part e small enough lo hi c ok place total =
     let at : ℕ = k * partSize m in
     let size : suc (length part) - 1 ≡ length part = omega arith in
     let to : joinedTo (s .state) chain (suc (length part)) ≡ at + length part = rw (place, size) in
     let j : joined m (s .state) (pctrOf 0 chain ∷ part) (s .room) ≡ partJoined (s .state) (pctrOf 0 chain ∷ part) chain (s .room) =
-        joined-open m (s .state) chain part (s .room) e small enough lo hi c ok (rw to total) in
+    joined-open m (s .state) chain part (s .room) e small enough lo hi c ok (rw to total) in
     rw (j, to, place)
 
 -- ---- which CHAIN
@@ -174,7 +172,7 @@ read-on m k chain message r s e hi idle ih c small c4 f ok place =
       enough = put-length (s .room) part (k * p) (omega arith) ∙ ih .enough;
       state = rw (f, to);
       bytes = subst (λ n. take n (put (s .room) (k * p) part) ≡ take (suc k * p) message) to
-        (put-part-bytes p k (s .room) message part refl (omega arith) (ih .bytes) ∙ ap (λ (n : ℕ). take n message) to2);
+          (put-part-bytes p k (s .room) message part refl (omega arith) (ih .bytes) ∙ ap (λ (n : ℕ). take n message) to2);
     })
 
 reading : (m k : ℕ) (message : List ℕ) (r : Reader) → limitOk m ≡ true → 1 ≤ length message → length message ≤ longest → Idle r → k < packetCount m (length message)
@@ -219,8 +217,8 @@ read-last m k chain message r s e hi idle ih c small c4 f ok place =
     let enough : longest ≤ length (s .room) = omega (arith, ih .enough, idle .enough) in
     let one = read-one m k chain message s part e small enough (omega arith) (omega arith) c4 (ok (suc (length part)) (omega arith)) place (omega arith) in
     let bytes : take (length message) (put (s .room) (k * p) part) ≡ message =
-        subst (λ n. take n (put (s .room) (k * p) part) ≡ message) to
-        (put-part-bytes p k (s .room) message part refl (omega arith) (ih .bytes) ∙ take-all (k * p + p) message all) in
+    subst (λ n. take n (put (s .room) (k * p) part) ≡ message) to
+    (put-part-bytes p k (s .room) message part refl (omega arith) (ih .bytes) ∙ take-all (k * p + p) message all) in
     subst (λ x. Rejoined m message r x) (sym one) (record {
       answers = rw (ih .answers, ← c) (append-assoc (r .answers) (dones k) (done ∷ []));
       messages = rw (f, to, ne-eqb (length message) 0 (λ q. omega arith), bytes, ih .messages);

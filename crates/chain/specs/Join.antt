@@ -35,12 +35,15 @@ abbrev pub dropsChain : ℕ → Bool
 dropsChain answer = eqb answer chainFault || (eqb answer tooLong || eqb answer faultTold)
 
 -- "With answer 10, and no other, joining also tells, as a number, the one-byte packet 07 (section 5.2) for the caller to submit."
+abbrev pub faultOf : ℕ → ℕ
+faultOf answer = cond (eqb answer chainFault) (faultPacket 0) 0
+
 abbrev pub refusal : Joining → ℕ → Joined
 refusal j answer = record {
   state = cond (dropsChain answer) freshJoining j;
   length = 0;
   answer = answer;
-  fault = cond (eqb answer chainFault) (faultPacket 0) 0;
+  fault = faultOf answer;
 }
 
 -- ---- the outer checks

@@ -1,4 +1,4 @@
--- What is promised of cutting and joining together; proofs/Rejoining.antt proves each.
+-- What is promised of cutting and joining beyond the calls' contracts; proofs/Chains.antt and proofs/Rejoining.antt prove it.
 use Prim.Native.Nat.{ℕ, zero, suc, _<_, _≤_}
 use mathlib.Core.Bool.{true, false, cond}
 use mathlib.Core.List.{List, [], _∷_, _++_}
@@ -7,8 +7,10 @@ use lib.ListN.{length, take}
 use lib.Dec.{eqb}
 use Rattle.base.specs.Answer.{done}
 use Rattle.chain.specs.declared.Joining.{Joining}
-use Rattle.chain.specs.Cut.{limitOk, longest, packetCount, packetsTo, packetsOf, cutOut}
-use Rattle.chain.specs.Join.{freshJoining, joined}
+use Rattle.chain.specs.declared.Joined.{Joined}
+use Rattle.chain.specs.declared.Piece.{Piece}
+use Rattle.chain.specs.Cut.{limitOk, longest, packetCount, packetsTo, packetsOf, Cutting, cutting, cutOut}
+use Rattle.chain.specs.Join.{freshJoining, Joins, joins, joined}
 
 -- ---- cutting gives exactly the packets of the message
 
@@ -80,3 +82,20 @@ abbrev pub NoneBefore : Type 0
 NoneBefore =
     (m : ℕ) (message : List ℕ) (r : Reader) (k : ℕ) → limitOk m ≡ true → 1 ≤ length message → length message ≤ longest → Idle r
     → k < packetCount m (length message) → Unfinished k r (readAll m r (packetsTo m message k))
+
+-- ---- the calls alone
+
+-- any two outcomes that a contract allows are equal
+abbrev pub CutSettled : Type 0
+CutSettled =
+    (told other : Piece) (buffer otherBuffer : List ℕ) (all : Cutting) → cutting told buffer ≡ all → cutting other otherBuffer ≡ all
+    → (told ≡ other) × (buffer ≡ otherBuffer)
+
+abbrev pub JoinSettled : Type 0
+JoinSettled =
+    (told other : Joined) (room otherRoom : List ℕ) (all : Joins) → joins told room ≡ all → joins other otherRoom ≡ all
+    → (told ≡ other) × (room ≡ otherRoom)
+
+-- a joined length of at most 4,096 stays so, whatever is joined
+abbrev pub JoinKept : Type 0
+JoinKept = (m : ℕ) (j : Joining) (packet room : List ℕ) → j .joined ≤ longest → joined m j packet room .told .state .joined ≤ longest

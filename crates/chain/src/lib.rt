@@ -6,10 +6,9 @@ ghost use mathlib.Core.List.{_∷_};
 ghost use Prim.Native.Nat.{_+_, _≤_, _<_};
 ghost use lib.ListN.{length};
 ghost use Rattle.base.specs.Buffer.{put};
-ghost use Rattle.base.specs.Answer.{done};
 ghost use Rattle.chain.specs.Pctr.{pctrOf};
 ghost use Rattle.chain.specs.Cut.{limitOk, leastOf, packetCount, chainAt, cutGate, cutting, given, cutOut};
-ghost use Rattle.chain.specs.Join.{freshJoining, joins, refusal, joinGate, faulty, placeOf, joinedTo, chainGate, partTold, partJoined, joinedPart, joined};
+ghost use Rattle.chain.specs.Join.{freshJoining, joins, dropsChain, faultOf, refusal, joinGate, faulty, placeOf, joinedTo, chainGate, partTold, partJoined, joinedPart, joined};
 
 // What cut tells of a packet.
 pub struct Piece {
@@ -165,32 +164,35 @@ pub fn fresh_joining() -> Joining
     }
 }
 
+fn drops_chain(answer: u8) -> bool
+    ensures { λ r. ⌜ r ≡ dropsChain answer ⌝ }
+{
+    (answer == answer::CHAIN_FAULT)
+        | ((answer == answer::TOO_LONG) | (answer == answer::FAULT_TOLD))
+}
+
+fn fault_of(answer: u8) -> u8
+    ensures { λ r. ⌜ r ≡ faultOf answer ⌝ }
+{
+    if answer == answer::CHAIN_FAULT {
+        return pctr(CHANNEL, FAULT);
+    }
+    0
+}
+
 fn refuse(j: Joining, answer: u8) -> Joined
     ensures { λ r. ⌜ r ≡ refusal j answer ⌝ }
 {
-    if answer == answer::CHAIN_FAULT {
-        let state = fresh_joining();
-        return Joined {
-            state,
-            length: 0,
-            answer,
-            fault: pctr(CHANNEL, FAULT),
-        };
-    }
-    if (answer == answer::TOO_LONG) | (answer == answer::FAULT_TOLD) {
-        let state = fresh_joining();
-        return Joined {
-            state,
-            length: 0,
-            answer,
-            fault: 0,
-        };
+    let fault = fault_of(answer);
+    let mut state = j;
+    if drops_chain(answer) {
+        state = fresh_joining();
     }
     Joined {
-        state: j,
+        state,
         length: 0,
         answer,
-        fault: 0,
+        fault,
     }
 }
 

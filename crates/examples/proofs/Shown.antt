@@ -54,5 +54,7 @@ shown = record {
   example7 = λ e. opened e (freshOf (e .settings)) (0x00 ∷ 0x00 ∷ 0x00 ∷ 0x00 ∷ 0x00 ∷ []) (fresh-end e) refl refl ∙ rw (longer e 5 (omega arith));
   example8 = λ e. opened e (freshOf (e .settings)) (0x03 ∷ 0x00 ∷ 0x01 ∷ 0x00 ∷ 0x15 ∷ 0x3C ∷ []) (fresh-end e) refl refl ∙ rw (longer e 6 (omega arith));
   example9 = λ e. opened e (delivered0 e) (0x03 ∷ 0x00 ∷ 0x01 ∷ 0x00 ∷ 0x15 ∷ 0x3C ∷ []) (after-example8 e) refl refl ∙ rw (longer e 6 (omega arith));
+  example10 = λ a b c d e f g h i j. refl;
+  example11 = λ a b c d e f g h i j k. refl;
   example12 = refl;
 }

@@ -1,4 +1,4 @@
--- Document 01's examples, of the definitions, in one table. So far all but 10 and 11, which are of chaining.
+-- Document 01's twelve examples, of the definitions, in one table.
 use Prim.Native.Nat.{ℕ, _≤_}
 use mathlib.Core.Bool.{true, false}
 use mathlib.Core.List.{List, [], _∷_}
@@ -17,6 +17,7 @@ use Rattle.state.specs.State.{freshOf}
 use Rattle.state.specs.Gate.{after}
 use Rattle.state.specs.Timer.{elapsed}
 use Rattle.receive.specs.Take.{taken}
+use Rattle.chain.specs.Cut.{packetsOf}
 
 -- a fresh end with any settings in range and buffers that are long enough, at any millisecond
 pub record End : Type 0 where
@@ -59,5 +60,11 @@ pub record Table : Type 0 where
   -- "The same again: 9, and example 2's frame goes out."
   pub example9 : (e : End) → taken (delivered0 e) (e .slots) (e .frame) (e .ms) (0x03 ∷ 0x00 ∷ 0x01 ∷ 0x00 ∷ 0x15 ∷ 0x3C ∷ [])
       ≡ after (told (withAcking (delivered0 e) false) unexpected 5 0) (e .slots) (put (e .frame) 0 (0x80 ∷ 0x00 ∷ 0x00 ∷ 0xEC ∷ 0x0C ∷ []))
+  -- "m = 11: 10 bytes make one packet."
+  pub example10 : (a b c d e f g h i j : ℕ) → packetsOf 11 (a ∷ b ∷ c ∷ d ∷ e ∷ f ∷ g ∷ h ∷ i ∷ j ∷ [])
+      ≡ (0x00 ∷ a ∷ b ∷ c ∷ d ∷ e ∷ f ∷ g ∷ h ∷ i ∷ j ∷ []) ∷ []
+  -- "11 bytes make packets of 11 and 2."
+  pub example11 : (a b c d e f g h i j k : ℕ) → packetsOf 11 (a ∷ b ∷ c ∷ d ∷ e ∷ f ∷ g ∷ h ∷ i ∷ j ∷ k ∷ [])
+      ≡ (0x01 ∷ a ∷ b ∷ c ∷ d ∷ e ∷ f ∷ g ∷ h ∷ i ∷ j ∷ []) ∷ (0x04 ∷ k ∷ []) ∷ []
   -- "Start 4,294,967,290 and now 4: 10 ms elapsed."
   pub example12 : elapsed 4294967290 4 ≡ 10

@@ -5,7 +5,10 @@ pub const OUTPUT: usize = 65536;
 
 pub const MOST_BYTES: usize = 8192;
 
-pub const KEPT: usize = 4096;
+// The room begins behind the longest slot buffer.
+pub const ROOM_AT: usize = 4096;
+
+pub const KEPT: usize = 12288;
 
 pub const FRESH: usize = 4096;
 

@@ -1,4 +1,4 @@
-// Reads a script of calls on one end of the link, and prints a line for each call: docs/RIG.md.
+// Reads a script of calls on one end of the link and on one joining, and prints a line for each call: docs/RIG.md.
 mod buffers;
 mod field;
 mod order;

@@ -18,7 +18,11 @@ pub enum Command {
     Unknown,
     Lend,
     State,
+    Room,
+    Joining,
     Link(Call),
+    Join,
+    Cut,
 }
 
 // The most fields that a command has.
@@ -44,6 +48,10 @@ const MIDDLE: u64 = 65535;
 const WIDE: u64 = 4294967295;
 
 const BUFFER: u64 = 4096;
+
+const ROOM: u64 = 8192;
+
+const PACKET: u64 = 1024;
 
 const SETTINGS: [u64; 5] = [MIDDLE, SMALL, MIDDLE, MIDDLE, SMALL];
 
@@ -80,6 +88,22 @@ fn setting_of(word: &[u8]) -> Command {
     }
     if check::same(word, b"state") {
         return Command::State;
+    }
+    chaining_of(word)
+}
+
+fn chaining_of(word: &[u8]) -> Command {
+    if check::same(word, b"room") {
+        return Command::Room;
+    }
+    if check::same(word, b"joining") {
+        return Command::Joining;
+    }
+    if check::same(word, b"join") {
+        return Command::Join;
+    }
+    if check::same(word, b"cut") {
+        return Command::Cut;
     }
     Command::Unknown
 }
@@ -169,7 +193,11 @@ fn fields_of(line: &[u8], at: usize, command: Command, bytes: &mut Bytes) -> Ord
         Command::Unknown => no_order(),
         Command::Lend => fields(line, at, command, &[BUFFER, BUFFER], 2, bytes),
         Command::State => fields(line, at, command, &STATE, 18, bytes),
+        Command::Room => fields(line, at, command, &[ROOM], 1, bytes),
+        Command::Joining => fields(line, at, command, &[FLAG, MIDDLE], 2, bytes),
         Command::Link(call) => call_fields(line, at, call, bytes),
+        Command::Join => fields(line, at, command, &[MIDDLE, BYTES], 2, bytes),
+        Command::Cut => fields(line, at, command, &[MIDDLE, WIDE, PACKET, BYTES], 4, bytes),
     }
 }
 

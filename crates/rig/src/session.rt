@@ -2,11 +2,15 @@
 use crate::buffers::Bytes;
 use crate::buffers::Fresh;
 use crate::buffers::Kept;
+use crate::buffers::ROOM_AT;
 use crate::order::Call;
 use crate::order::Command;
 use crate::order::FIELDS;
 use crate::order::Order;
 use crate::order::Values;
+use chain::Joined;
+use chain::Joining;
+use chain::Piece;
 use state::Link;
 use state::Outcome;
 use state::Settings;
@@ -17,6 +21,10 @@ pub struct Session {
     pub outcome: Outcome,
     pub slots: usize,
     pub frame: usize,
+    pub joined: Joined,
+    pub room: usize,
+    pub piece: Piece,
+    pub packet: usize,
 }
 
 const FRESH_SLOT: u8 = 0xEE;
@@ -86,7 +94,31 @@ pub fn beginning() -> Session {
         outcome: state::answer_only(link_of([0; FIELDS]), 0),
         slots: 0,
         frame: 0,
+        joined: only_state(0, false),
+        room: 0,
+        piece: Piece {
+            count: 0,
+            length: 0,
+            answer: 0,
+        },
+        packet: 0,
     }
+}
+
+fn only_state(joined: u16, opened: bool) -> Joined {
+    let state = Joining { joined, opened };
+    Joined {
+        state,
+        length: 0,
+        answer: 0,
+        fault: 0,
+    }
+}
+
+fn with_joined(s: Session, joined: Joined) -> Session {
+    let mut k = s;
+    k.joined = joined;
+    k
 }
 
 fn with_outcome(s: Session, outcome: Outcome) -> Session {
@@ -173,6 +205,60 @@ fn call_link(
     with_outcome(s, lent(call, v, bytes, kept, fresh, s))
 }
 
+// ---- chaining
+
+fn set_joining(v: Values, s: Session) -> Session {
+    with_joined(s, only_state(middle(v[1]), v[0] == 1))
+}
+
+fn fresh_room(kept: &mut [u8], room: usize) {
+    if ROOM_AT <= kept.len() {
+        let end = ROOM_AT + least(room, kept.len() - ROOM_AT);
+        fill(&mut kept[ROOM_AT..end], FRESH_SLOT);
+    }
+}
+
+fn set_room(v: Values, kept: &mut Kept, s: Session) -> Session {
+    let mut k = s;
+    k.room = v[0] as usize;
+    fresh_room(kept, k.room);
+    k
+}
+
+fn joined(v: Values, bytes: &[u8], kept: &mut [u8], s: Session) -> Joined {
+    let j = s.joined.state;
+    let count = least(v[1] as usize, bytes.len());
+    if kept.len() < ROOM_AT {
+        return s.joined;
+    }
+    let end = ROOM_AT + least(s.room, kept.len() - ROOM_AT);
+    chain::join(middle(v[0]), j, &bytes[0..count], &mut kept[ROOM_AT..end])
+}
+
+fn join(v: Values, bytes: &Bytes, kept: &mut Kept, s: Session) -> Session {
+    with_joined(s, joined(v, bytes, kept, s))
+}
+
+fn piece(v: Values, bytes: &[u8], fresh: &mut [u8]) -> Piece {
+    let count = least(v[3] as usize, bytes.len());
+    let packet = least(v[2] as usize, fresh.len());
+    fill(&mut fresh[0..packet], FRESH_FRAME);
+    chain::cut(
+        middle(v[0]),
+        &bytes[0..count],
+        wide(v[1]),
+        &mut fresh[0..packet],
+    )
+}
+
+fn cut(v: Values, bytes: &Bytes, fresh: &mut Fresh, s: Session) -> Session {
+    let p = piece(v, bytes, fresh);
+    let mut k = s;
+    k.piece = p;
+    k.packet = v[2] as usize;
+    k
+}
+
 // ---- every command
 
 pub fn obey(o: Order, bytes: &Bytes, kept: &mut Kept, fresh: &mut Fresh, s: Session) -> Session {
@@ -182,6 +268,10 @@ pub fn obey(o: Order, bytes: &Bytes, kept: &mut Kept, fresh: &mut Fresh, s: Sess
         Command::Unknown => s,
         Command::Lend => lend(values, kept, s),
         Command::State => set_state(values, s),
+        Command::Room => set_room(values, kept, s),
+        Command::Joining => set_joining(values, s),
         Command::Link(call) => call_link(call, values, bytes, kept, fresh, s),
+        Command::Join => join(values, bytes, kept, s),
+        Command::Cut => cut(values, bytes, fresh, s),
     }
 }

@@ -3,14 +3,17 @@ use crate::buffers::Fresh;
 use crate::buffers::Kept;
 use crate::buffers::OUTPUT;
 use crate::buffers::Output;
+use crate::buffers::ROOM_AT;
 use crate::order::Command;
 use crate::session::Session;
+use chain::Joined;
+use chain::Piece;
 use libc::STDOUT_FILENO;
 use state::Outcome;
 ghost use Prim.Native.Nat.{_+_, _*_, _≤_, _<_};
 ghost use lib.ListN.{length};
 
-// More than the longest line: two buffers of 4,096 bytes in digits, and 22 numbers.
+// More than the longest line: two buffers of 4,096 bytes, or a room of 8,192, in digits, and 22 numbers.
 const LONGEST: usize = 17000;
 
 // ---- writing out
@@ -187,6 +190,42 @@ fn add_link(out: &mut Output, at: usize, kept: &Kept, fresh: &Fresh, s: Session)
     add(out, d, b"\n")
 }
 
+fn joined_numbers(j: Joined) -> [u64; 5] {
+    let s = j.state;
+    [
+        of_small(j.answer),
+        of_middle(j.length),
+        of_small(j.fault),
+        of_flag(s.opened),
+        of_middle(s.joined),
+    ]
+}
+
+fn piece_numbers(p: Piece) -> [u64; 3] {
+    [of_small(p.answer), of_middle(p.length), of_middle(p.count)]
+}
+
+fn add_room(out: &mut [u8], at: usize, kept: &[u8], room: usize) -> usize {
+    if ROOM_AT <= kept.len() {
+        return add_bytes(out, at, &kept[ROOM_AT..], room);
+    }
+    at
+}
+
+fn add_join(out: &mut Output, at: usize, kept: &Kept, s: Session) -> usize {
+    let numbers = joined_numbers(s.joined);
+    let a = add_numbers(out, at, &numbers);
+    let b = add_room(out, a, kept, s.room);
+    add(out, b, b"\n")
+}
+
+fn add_cut(out: &mut Output, at: usize, fresh: &Fresh, s: Session) -> usize {
+    let numbers = piece_numbers(s.piece);
+    let a = add_numbers(out, at, &numbers);
+    let b = add_bytes(out, a, fresh, s.packet);
+    add(out, b, b"\n")
+}
+
 // The line that a command prints, if any.
 pub fn add_printed(
     out: &mut Output,
@@ -198,6 +237,8 @@ pub fn add_printed(
 ) -> usize {
     match command {
         Command::Link(_) => add_link(out, at, kept, fresh, s),
+        Command::Join => add_join(out, at, kept, s),
+        Command::Cut => add_cut(out, at, fresh, s),
         _ => at,
     }
 }

@@ -1,7 +1,7 @@
 -- `chain::cut_gate` meets its contract.
 -- Assumes nothing.
 use mathlib.Core.Path.{sym, _∙_}
-use borrow.Author.Tests.{lt-ltb, le-ltb, leb-true}
+use borrow.Author.Tests.{lt-ltb, le-ltb}
 use Rattle.base.proofs.Tests.{within-low, within-high}
 use Rattle.chain.specs.Cut.{cutGate}
 use borrow.Author.Needs.{needs}
