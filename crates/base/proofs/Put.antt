@@ -1,11 +1,11 @@
 -- Laws of `put`, for whoever writes into a lent buffer. Assumes nothing.
-use mathlib.Core.Path.{_≡_, sym, ap, _∙_}
+use mathlib.Core.Path.{_≡_, refl, sym, ap, subst, _∙_}
 use mathlib.Core.List.{List, [], _++_, append-assoc, append-nil}
 use Prim.Native.Nat.{ℕ, _+_, _-_, _≤_}
 use native.Mathlib.Nat.{zero-add, add-assoc}
 use native.Mathlib.Omega.{arith}
 use lib.ListN.{length, take, drop, length-append, length-take, length-drop, drop-of-length-le}
-use lib.Seq.{take-length, drop-drop, drop-append-add, take-at, sets, sets-eq, length-take-le}
+use lib.Seq.{take-length, drop-drop, drop-append-add, take-at, drop-at, take-add, take-take, take-append-le, take-append-seam, sets, sets-eq, length-take-le}
 use Rattle.base.specs.Buffer.{put}
 
 pub put-length : (d s : List ℕ) (at : ℕ) → at + length s ≤ length d → length (put d at s) ≡ length d
@@ -61,3 +61,38 @@ unfolding put
 put-part d s part at k e h q =
     let rest : drop k (take k (drop at d)) ≡ [] = drop-of-length-le (take k (drop at d)) {i = k} (simp (length-take, length-drop) (omega arith)) in
     rw (q, take-length, ← e, rest, append-nil, drop-drop)
+
+-- ---- parts of a buffer after a put
+
+-- what was put, where it was put
+pub put-in : (d s : List ℕ) (at : ℕ) → at ≤ length d → take (length s) (drop at (put d at s)) ≡ s
+unfolding put
+put-in d s at h =
+    ap (λ (x : List ℕ). take (length s) x) (drop-at (take at d) (s ++ drop (at + length s) d) at (length-take-le at d h))
+    ∙ take-append-seam s (drop (at + length s) d)
+
+part-taken : (x : List ℕ) (a k : ℕ) → a ≤ length x → drop a (take (a + k) x) ≡ take k (drop a x)
+part-taken x a k h = ap (drop a) (take-add a k x) ∙ drop-at (take a x) (take k (drop a x)) a (length-take-le a x h)
+
+take-before : (d s : List ℕ) (at n : ℕ) → n ≤ at → at ≤ length d → take n (put d at s) ≡ take n d
+unfolding put
+take-before d s at n h l =
+    take-append-le n (take at d) (s ++ drop (at + length s) d) (rw (length-take-le at d l) h) ∙ take-take n at d h
+
+-- a part that ends before it
+pub put-before : (d s : List ℕ) (at a k : ℕ) → a + k ≤ at → at + length s ≤ length d → take k (drop a (put d at s)) ≡ take k (drop a d)
+put-before d s at a k h l =
+    let inside : a ≤ length (put d at s) = rw (put-length d s at l) (omega arith) in
+    sym (part-taken (put d at s) a k inside) ∙ ap (drop a) (take-before d s at (a + k) h (omega arith)) ∙ part-taken d a k (omega arith)
+
+-- all from its end on
+pub put-behind : (d s : List ℕ) (at a : ℕ) → at + length s ≤ a → at + length s ≤ length d → drop a (put d at s) ≡ drop a d
+unfolding put
+put-behind d s at a h l =
+    let n : ℕ = at + length s in
+    let e : a ≡ length (take at d ++ s) + (a - n) = rw (put-head d s at n refl l) (omega arith) in
+    let back : n + (a - n) ≡ a = omega arith in
+    ap (drop a) (sym (append-assoc (take at d) s (drop n d)))
+    ∙ subst (λ k. drop k ((take at d ++ s) ++ drop n d) ≡ drop (a - n) (drop n d)) (sym e) (drop-append-add (take at d ++ s) (drop n d) (a - n))
+    ∙ drop-drop (a - n) n d
+    ∙ ap (λ (k : ℕ). drop k d) back

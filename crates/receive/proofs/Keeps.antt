@@ -24,7 +24,7 @@ use Rattle.send.proofs.Keeps.{again-sound, quiet-sound, sendsNak-sound}
 use Rattle.receive.specs.Steps.{freed, repeatable, afterStep6, afterDelivery}
 use Rattle.receive.specs.Take.{repeatedOr, dataTaken, obeyed, taken}
 
-freed-sound : (l : Link) (number : ℕ) → Sound l → Sound (freed l number)
+pub freed-sound : (l : Link) (number : ℕ) → Sound l → Sound (freed l number)
 freed-sound l number s =
     let f : Formed l = wellFormed-facts l (s .formed) in
     changed-sound l (l .starts) (l .counts) (l .ackstart) (l .expected) (cond (waits l number) (behind l number) (l .waiting)) (l .acking) (l .naked) (l .lost) s
@@ -38,7 +38,7 @@ afterStep6-sound : (l : Link) (nak : Bool) (number : ℕ) → Sound l → Sound 
 afterStep6-sound l true number s = s
 afterStep6-sound l false number s = freed-sound l number s
 
-afterDelivery-sound : (l : Link) (ms : ℕ) → Sound l → Sound (afterDelivery l ms)
+pub afterDelivery-sound : (l : Link) (ms : ℕ) → Sound l → Sound (afterDelivery l ms)
 afterDelivery-sound l ms s =
     let f : Formed l = wellFormed-facts l (s .formed) in
     changed-sound l (l .starts) (l .counts) (cond (l .acking) (l .ackstart) ms) ((l .expected + 1) % 4) (l .waiting) true false (l .lost) s

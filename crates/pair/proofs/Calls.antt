@@ -1,0 +1,177 @@
+-- Each call of an end keeps what holds at every moment. Assumes nothing.
+use mathlib.Core.Path.{_≡_, refl, sym, ap, subst, _∙_}
+use mathlib.Core.Bool.{Bool, true, false, cond, _&&_}
+use mathlib.Core.List.{List, [], _∷_, _++_, append-nil}
+use Prim.Native.Nat.{ℕ, suc, _%_, _+_, _-_, _*_, _≤_, _<_, max}
+use native.Mathlib.Omega.{arith}
+use borrow.Author.Tests.{ltb-true, eqb-true, eqb-false, ne-eqb}
+use lib.ListN.{length, take, drop, getD, length-take, length-drop}
+use lib.Seq.{length-take-le}
+use lib.Dec.{eqb, ltb}
+use Rattle.base.specs.Answer.{done, shortBuffer, unexpected}
+use Rattle.base.specs.Buffer.{put}
+use Rattle.base.proofs.Put.{put-take, put-length}
+use Rattle.base.proofs.Tests.{and-left, and-right}
+use Rattle.frame.specs.declared.Heard.{Heard}
+use Rattle.frame.specs.declared.Heard.the-variants.{Size, Sum, Ack, Nak, Data}
+use Rattle.frame.specs.Bytes.{frameOf, dataFrame, ackFrame, nakFrame}
+use Rattle.frame.specs.Steps.{heard, packetIn, refusalOf}
+use Rattle.frame.proofs.Writing.{frameOf-length}
+use Rattle.frame.proofs.Hearing.{data-heard, packet-heard, ack-heard, nak-heard}
+use Rattle.state.specs.declared.Settings.{Settings}
+use Rattle.state.specs.declared.Link.{Link}
+use Rattle.state.specs.declared.Outcome.{Outcome}
+use Rattle.state.specs.Bounds.{limitOf, slotsNeed, frameNeed}
+use Rattle.state.specs.State.{lastCorrect, behind, waits, sentBefore, slotOf, lengthOf}
+use Rattle.state.specs.Gate.{After, after, refused, gated, gateOf}
+use Rattle.state.specs.Formed.{InRange, Formed, Sound, Open}
+use Rattle.state.proofs.Facts.{wellFormed-facts, gateOf-facts, slotOf-lt, part-inside}
+use Rattle.state.proofs.Keeps.{marked-sound}
+use Rattle.send.specs.Repeat.{partOf, packetOf, again, mayRepeat}
+use Rattle.send.specs.Makers.{Sending, sends, silent, ends, quiet, marked, sendsRepeat, sendsAck, sendsNak}
+use Rattle.send.proofs.Facts.{part-fits}
+use Rattle.send.proofs.Keeps.{again-sound, quiet-sound}
+use Rattle.pair.specs.System.{Side, System, sentBy, called}
+use Rattle.pair.proofs.Line.{Line, Idle, by-size, by-sum, a-nak, line-data, line-ack, line-idle}
+use Rattle.pair.proofs.Invariant.{Way, Inv, turned, restated, inv-turned, window-small}
+
+-- ---- what a call leaves
+
+-- the frame that was put at the start of the buffer is the frame that was sent
+pub sent-frame : (l : Link) (bytes frame slots : List ℕ) (answer delivered : ℕ) → 1 ≤ length bytes → length bytes ≤ length frame
+    → sentBy (ends (sends l bytes frame) answer delivered slots) ≡ bytes ∷ []
+sent-frame l bytes frame slots answer delivered lo hi =
+    rw (ne-eqb (length bytes) 0 (λ q. omega arith), put-take frame bytes 0 (length bytes) (omega arith) hi)
+
+-- a call that took and delivered nothing
+pub called-turned : (S : System) (a : After Outcome) (q sent : List (List ℕ)) → sentBy a ≡ sent → a .slots ≡ S .here .slots
+    → called S a q [] [] ≡ turned S (a .told .state) q sent
+called-turned S a q sent e k = rw (e, k, append-nil (S .here .takenIn), append-nil (S .here .delivered))
+
+-- behind a gate
+pub gated-cases : (P : After Outcome → Type 0) (g : ℕ) (l : Link) (slots frame : List ℕ) (inside : After Outcome) → (g ≡ done → P inside)
+    → ((g ≡ done → ⊥) → P (refused l g slots frame)) → P (gated g l slots frame inside)
+gated-cases P g l slots frame inside opened shut = go (eqb g done) refl
+  where
+    go : (t : Bool) → eqb g done ≡ t → P (cond t inside (refused l g slots frame))
+    go true e = opened (eqb-true g done e)
+    go false e = shut (eqb-false g done e)
+
+-- ---- nothing but a frame sent
+
+pub inv-same : (s : Settings) (S : System) → Inv s S → Inv s (turned S (S .here .state) (S .here .queue) [])
+inv-same s S I =
+    inv-turned s S (S .here .state .starts) (S .here .state .counts) (S .here .state .ackstart) (S .here .state .acking) (S .here .state .naked) (S .here .state .lost) [] I (I .here .sound)
+    (rw append-nil (I .toThere))
+
+pub last-said : (s : Settings) (x : Side) (t : List (List ℕ)) (b g : ℕ) → Way s x t b g → lastCorrect (x .state) ≡ (g + 3) % 4
+last-said s x t b g w = omega (arith, w .expected)
+
+-- a control ACK, whatever becomes of marks and timers
+pub inv-acked : (s : Settings) (S : System) → InRange s → Inv s S → Inv s (turned S (quiet (S .here .state)) (S .here .queue) (ackFrame (lastCorrect (S .here .state)) ∷ []))
+inv-acked s S r I =
+    let l : Link = S .here .state in
+    let a : lastCorrect l ≡ (I .gotHere + 3) % 4 = last-said s (S .here) (S .there .takenIn) (I .freedHere) (I .gotHere) (I .here) in
+    inv-turned s S (l .starts) (l .counts) (l .ackstart) false (l .naked) (l .lost) (ackFrame (lastCorrect l) ∷ []) I (quiet-sound l (I .here .sound))
+    (line-ack (s .d) (S .here .takenIn) (ackFrame (lastCorrect l)) (S .there .queue) (ack-heard (s .d) (lastCorrect l) (omega arith) (omega (arith, r .d-lo)) ∙ ap Ack a) (I .toThere))
+
+-- the packet that j were sent after lies in the slots, and is as long as the state says
+waiting-length : (s : Settings) (x : Side) (t : List (List ℕ)) (b g j : ℕ) → Way s x t b g → j < x .state .waiting
+    → length (packetOf (x .state) (x .slots) (sentBefore (x .state) j)) ≡ lengthOf (x .state) (sentBefore (x .state) j)
+waiting-length s x t b g j w h =
+    let l : Link = x .state in
+    let k : ℕ = sentBefore l j in
+    let formed : Formed l = wellFormed-facts l (w .sound .formed) in
+    let room : slotsNeed (l .settings) ≤ length (x .slots) = rw (w .settings) (w .room) in
+    let inside : partOf l k + lengthOf l k ≤ length (x .slots) =
+    part-inside (slotOf l k) (l .settings .window) (limitOf (l .settings)) (lengthOf l k) (length (x .slots)) (slotOf-lt l k (formed .settings .window-lo)) (formed .lengths j h .most) room in
+    simp (length-take, length-drop) (omega arith)
+
+-- a packet that waits, repeated: the one that j were sent after
+pub inv-repeated : (s : Settings) (S : System) (j ms : ℕ) → InRange s → Inv s S → j < S .here .state .waiting → mayRepeat (S .here .state) (sentBefore (S .here .state) j) ≡ true
+    → Inv s (turned S (again (S .here .state) (sentBefore (S .here .state) j) ms) (S .here .queue)
+    (dataFrame (sentBefore (S .here .state) j) (lastCorrect (S .here .state)) (packetOf (S .here .state) (S .here .slots) (sentBefore (S .here .state) j)) ∷ []))
+inv-repeated s S j ms r I h may =
+    let l : Link = S .here .state in
+    let n : ℕ = length (S .here .takenIn) in
+    let f : ℕ = n - 1 - j in
+    let k : ℕ = sentBefore l j in
+    let w : Way s (S .here) (S .there .takenIn) (I .freedHere) (I .gotHere) = I .here in
+    let formed : Formed l = wellFormed-facts l (w .sound .formed) in
+    let small : l .waiting ≤ 2 = window-small s (S .here) (S .there .takenIn) (I .freedHere) (I .gotHere) w in
+    let number : f % 4 ≡ k = omega (arith, w .next, w .window) in
+    let packet : List ℕ = packetOf l (S .here .slots) k in
+    let len : length packet ≡ lengthOf l k = waiting-length s (S .here) (S .there .takenIn) (I .freedHere) (I .gotHere) j w h in
+    let a : lastCorrect l ≡ (I .gotHere + 3) % 4 = last-said s (S .here) (S .there .takenIn) (I .freedHere) (I .gotHere) w in
+    let lo : 1 ≤ length packet = omega (arith, len, formed .lengths j h .least) in
+    let d : l .settings .d ≡ s .d = ap (λ (x : Settings). x .d) (w .settings) in
+    let hi : length packet + 5 ≤ s .d = omega (arith, len, formed .lengths j h .most, r .d-lo) in
+    let heard-as : heard (s .d) (dataFrame k (lastCorrect l) packet) ≡ Data (f % 4) false ((I .gotHere + 3) % 4) (length packet) =
+    data-heard (s .d) k (lastCorrect l) packet (omega arith) (omega arith) lo hi ∙ rw (number, a) in
+    let bytes : packetIn (dataFrame k (lastCorrect l) packet) (length packet) ≡ getD (S .here .takenIn) f [] =
+    packet-heard k (lastCorrect l) packet ∙ subst (λ x. packetOf l (S .here .slots) x ≡ getD (S .here .takenIn) f []) number (w .holds f (omega (arith, w .window)) (omega (arith, w .window))) in
+    inv-turned s S _ _ (l .ackstart) false (l .naked) (l .lost) (dataFrame k (lastCorrect l) packet ∷ []) I (again-sound l k ms (w .sound) may)
+    (line-data (s .d) (S .here .takenIn) f (length packet) (dataFrame k (lastCorrect l) packet) (S .there .queue) heard-as bytes lo (omega (arith, w .window)) (omega (arith, w .window)) (I .toThere))
+
+-- a control NAK
+pub inv-nakked : (s : Settings) (S : System) → InRange s → Inv s S
+    → Inv s (turned S (marked (S .here .state)) (S .here .queue) (nakFrame ((lastCorrect (S .here .state) + 1) % 4) ∷ []))
+inv-nakked s S r I =
+    let l : Link = S .here .state in
+    let k : ℕ = (lastCorrect l + 1) % 4 in
+    let heard-as : heard (s .d) (nakFrame k) ≡ Nak k = nak-heard (s .d) k (omega arith) (omega (arith, r .d-lo)) in
+    inv-turned s S (l .starts) (l .counts) (l .ackstart) (l .acking) true (l .lost) (nakFrame k ∷ []) I (marked-sound l (l .ackstart) (l .acking) true (l .lost) (I .here .sound))
+    (line-idle (s .d) (S .here .takenIn) (nakFrame k) (S .there .queue) (subst Idle (sym heard-as) (a-nak k)) (I .toThere))
+
+-- ---- how each maker ends a call
+
+-- a control frame fits any frame buffer of an open gate
+five : (fctr : ℕ) → length (frameOf fctr []) ≡ 5
+five fctr = frameOf-length fctr []
+
+pub ends-silent : (s : Settings) (S : System) (l : Link) (frame : List ℕ) (q : List (List ℕ)) (answer : ℕ)
+    → Inv s (turned S l q []) → Inv s (called S (ends (silent l frame) answer 0 (S .here .slots)) q [] [])
+ends-silent s S l frame q answer I = subst (Inv s) (sym (called-turned S (ends (silent l frame) answer 0 (S .here .slots)) q [] refl refl)) I
+
+pub ends-sent : (s : Settings) (S : System) (l : Link) (bytes frame : List ℕ) (q : List (List ℕ)) (answer : ℕ) → 1 ≤ length bytes → length bytes ≤ length frame
+    → Inv s (turned S l q (bytes ∷ [])) → Inv s (called S (ends (sends l bytes frame) answer 0 (S .here .slots)) q [] [])
+ends-sent s S l bytes frame q answer lo hi I =
+    subst (Inv s) (sym (called-turned S (ends (sends l bytes frame) answer 0 (S .here .slots)) q (bytes ∷ []) (sent-frame l bytes frame (S .here .slots) answer 0 lo hi) refl)) I
+
+-- the end's queue is q
+abbrev pub Before : Settings → System → List (List ℕ) → Type 0
+Before s S q = Inv s (restated S (S .here .state) q)
+
+pub ends-ack : (s : Settings) (S : System) (frame : List ℕ) (q : List (List ℕ)) (answer : ℕ) → InRange s → 5 ≤ length frame → Before s S q
+    → Inv s (called S (ends (sendsAck (S .here .state) frame) answer 0 (S .here .slots)) q [] [])
+ends-ack s S frame q answer r h I =
+    ends-sent s S (quiet (S .here .state)) (ackFrame (lastCorrect (S .here .state))) frame q answer (omega (arith, five (0x80 + lastCorrect (S .here .state)))) (omega (arith, five (0x80 + lastCorrect (S .here .state))))
+    (inv-acked s (restated S (S .here .state) q) r I)
+
+pub ends-nothing : (s : Settings) (S : System) (frame : List ℕ) (q : List (List ℕ)) (answer : ℕ) → Before s S q → Inv s (called S (ends (silent (S .here .state) frame) answer 0 (S .here .slots)) q [] [])
+ends-nothing s S frame q answer I = ends-silent s S (S .here .state) frame q answer (inv-same s (restated S (S .here .state) q) I)
+
+pub ends-nak : (s : Settings) (S : System) (frame : List ℕ) (q : List (List ℕ)) (answer : ℕ) → InRange s → 5 ≤ length frame → Before s S q
+    → Inv s (called S (ends (sendsNak (S .here .state) frame) answer 0 (S .here .slots)) q [] [])
+ends-nak s S frame q answer r h I = go (S .here .state .naked)
+  where
+    k : ℕ
+    k = (lastCorrect (S .here .state) + 1) % 4
+
+    go : (t : Bool) → Inv s (called S (ends (cond t (silent (S .here .state) frame) (sends (marked (S .here .state)) (nakFrame k) frame)) answer 0 (S .here .slots)) q [] [])
+    go true = ends-nothing s S frame q answer I
+    go false = ends-sent s S (marked (S .here .state)) (nakFrame k) frame q answer (omega (arith, five (0xA0 + k))) (omega (arith, five (0xA0 + k))) (inv-nakked s (restated S (S .here .state) q) r I)
+
+pub ends-repeat : (s : Settings) (S : System) (j ms : ℕ) (frame : List ℕ) (q : List (List ℕ)) (answer : ℕ) → InRange s → s .d ≤ length frame → Before s S q
+    → j < S .here .state .waiting → mayRepeat (S .here .state) (sentBefore (S .here .state) j) ≡ true
+    → Inv s (called S (ends (sendsRepeat (S .here .state) (S .here .slots) frame ms (sentBefore (S .here .state) j)) answer 0 (S .here .slots)) q [] [])
+ends-repeat s S j ms frame q answer r room I h may =
+    let l : Link = S .here .state in
+    let k : ℕ = sentBefore l j in
+    let packet : List ℕ = packetOf l (S .here .slots) k in
+    let bytes : List ℕ = dataFrame k (lastCorrect l) packet in
+    let size : length bytes ≡ length packet + 5 = frameOf-length (k * 4 + lastCorrect l) packet in
+    let formed : Formed l = wellFormed-facts l (I .here .sound .formed) in
+    let len : length packet ≡ lengthOf l k = waiting-length s (restated S l q .here) (S .there .takenIn) (I .freedHere) (I .gotHere) j (I .here) h in
+    let d : l .settings .d ≡ s .d = ap (λ (x : Settings). x .d) (I .here .settings) in
+    ends-sent s S (again l k ms) bytes frame q answer (omega arith) (omega (arith, formed .lengths j h .most, r .d-lo)) (inv-repeated s (restated S l q) j ms r I h may)

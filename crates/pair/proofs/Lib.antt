@@ -1,0 +1,5 @@
+pub mod Line
+pub mod Slots
+pub mod Invariant
+pub mod Calls
+pub mod Moves

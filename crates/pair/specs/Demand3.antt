@@ -1,0 +1,50 @@
+-- Demand 3, in four statements. None of them speaks of a lost link but where it says so.
+use Prim.Native.Nat.{ℕ, _*_, _≤_}
+use mathlib.Core.Bool.{false}
+use mathlib.Core.List.{List}
+use mathlib.Core.Path.{_≡_}
+use lib.ListN.{length, take}
+use Rattle.state.specs.declared.Settings.{Settings}
+use Rattle.pair.specs.System.{System, IsClock, Moment}
+use Rattle.pair.specs.Round.{Rounds}
+
+-- "the packets delivered each way are at every moment the first so many of those taken: same bytes, same order, each once"
+abbrev pub FirstOf : List (List ℕ) → List (List ℕ) → Type 0
+FirstOf delivered takenIn = delivered ≡ take (length delivered) takenIn
+
+abbrev pub FirstSoMany : Type 0
+FirstSoMany =
+    (s : Settings) (S : System) → Moment s S
+    → FirstOf (S .there .delivered) (S .here .takenIn) × FirstOf (S .here .delivered) (S .there .takenIn)
+
+-- "every packet taken is delivered and both windows are empty"
+pub record Through (S : System) : Type 0 where
+  pub onward : S .there .delivered ≡ S .here .takenIn
+  pub back : S .here .delivered ≡ S .there .takenIn
+  pub window-here : S .here .state .waiting ≡ 0
+  pub window-there : S .there .state .waiting ≡ 0
+
+-- "no link is declared lost": the mark stays once it is set
+pub record Alive (S : System) : Type 0 where
+  pub here : S .here .state .lost ≡ false
+  pub there : S .there .state .lost ≡ false
+
+-- "From any such moment, if nothing new is handed in, nothing more is lost or damaged and no link is declared lost, then within 24 timer rounds
+-- of document 01 every packet taken is delivered and both windows are empty": after 24 rounds, and after any more
+abbrev pub Within24 : Type 0
+Within24 =
+    (s : Settings) (S T : System) (ms n total : ℕ) → Moment s S → IsClock ms → 24 ≤ n → Rounds ms S n total T → Alive T → Through T
+
+-- rounds can always be played, so many as one likes, from any moment and at any clock
+pub record Played (ms : ℕ) (S : System) (n : ℕ) : Type 0 where
+  pub end : System
+  pub total : ℕ
+  pub rounds : Rounds ms S n total end
+
+abbrev pub RoundsExist : Type 0
+RoundsExist = (s : Settings) (S : System) (ms n : ℕ) → Moment s S → IsClock ms → Played ms S n
+
+-- in milliseconds: however many rounds are played, the clock moves by at most 22 × TRANS_TIMEOUT, while no link is declared lost
+abbrev pub InMilliseconds : Type 0
+InMilliseconds =
+    (s : Settings) (S T : System) (ms n total : ℕ) → Moment s S → IsClock ms → Rounds ms S n total T → Alive T → total ≤ 22 * s .transmit

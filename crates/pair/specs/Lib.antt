@@ -1,0 +1,3 @@
+pub mod System
+pub mod Round
+pub mod Demand3
