@@ -31,9 +31,9 @@ use Rattle.send.specs.Repeat.{partOf, packetOf, again, mayRepeat}
 use Rattle.send.specs.Makers.{Sending, sends, silent, ends, quiet, marked, sendsRepeat, sendsAck, sendsNak}
 use Rattle.send.proofs.Facts.{part-fits}
 use Rattle.send.proofs.Keeps.{again-sound, quiet-sound}
-use Rattle.pair.specs.System.{Side, System, sentBy, called}
+use Rattle.pair.specs.System.{Side, System, sentBy, called, IsClock}
 use Rattle.pair.proofs.Line.{Line, Idle, by-size, by-sum, a-nak, line-data, line-ack, line-idle}
-use Rattle.pair.proofs.Invariant.{Way, Inv, turned, restated, inv-turned, window-small}
+use Rattle.pair.proofs.Invariant.{Way, Inv, set-timed, turned, restated, inv-turned, window-small}
 
 -- ---- what a call leaves
 
@@ -61,7 +61,7 @@ gated-cases P g l slots frame inside opened shut = go (eqb g done) refl
 
 pub inv-same : (s : Settings) (S : System) → Inv s S → Inv s (turned S (S .here .state) (S .here .queue) [])
 inv-same s S I =
-    inv-turned s S (S .here .state .starts) (S .here .state .counts) (S .here .state .ackstart) (S .here .state .acking) (S .here .state .naked) (S .here .state .lost) [] I (I .here .sound)
+    inv-turned s S (S .here .state .starts) (S .here .state .counts) (S .here .state .ackstart) (S .here .state .acking) (S .here .state .naked) (S .here .state .lost) [] I (I .here .sound) (I .here .timed)
     (rw append-nil (I .toThere))
 
 pub last-said : (s : Settings) (x : Side) (t : List (List ℕ)) (b g : ℕ) → Way s x t b g → lastCorrect (x .state) ≡ (g + 3) % 4
@@ -72,7 +72,7 @@ pub inv-acked : (s : Settings) (S : System) → InRange s → Inv s S → Inv s 
 inv-acked s S r I =
     let l : Link = S .here .state in
     let a : lastCorrect l ≡ (I .gotHere + 3) % 4 = last-said s (S .here) (S .there .takenIn) (I .freedHere) (I .gotHere) (I .here) in
-    inv-turned s S (l .starts) (l .counts) (l .ackstart) false (l .naked) (l .lost) (ackFrame (lastCorrect l) ∷ []) I (quiet-sound l (I .here .sound))
+    inv-turned s S (l .starts) (l .counts) (l .ackstart) false (l .naked) (l .lost) (ackFrame (lastCorrect l) ∷ []) I (quiet-sound l (I .here .sound)) (I .here .timed)
     (line-ack (s .d) (S .here .takenIn) (ackFrame (lastCorrect l)) (S .there .queue) (ack-heard (s .d) (lastCorrect l) (omega arith) (omega (arith, r .d-lo)) ∙ ap Ack a) (I .toThere))
 
 -- the packet that j were sent after lies in the slots, and is as long as the state says
@@ -88,10 +88,10 @@ waiting-length s x t b g j w h =
     simp (length-take, length-drop) (omega arith)
 
 -- a packet that waits, repeated: the one that j were sent after
-pub inv-repeated : (s : Settings) (S : System) (j ms : ℕ) → InRange s → Inv s S → j < S .here .state .waiting → mayRepeat (S .here .state) (sentBefore (S .here .state) j) ≡ true
+pub inv-repeated : (s : Settings) (S : System) (j ms : ℕ) → IsClock ms → InRange s → Inv s S → j < S .here .state .waiting → mayRepeat (S .here .state) (sentBefore (S .here .state) j) ≡ true
     → Inv s (turned S (again (S .here .state) (sentBefore (S .here .state) j) ms) (S .here .queue)
     (dataFrame (sentBefore (S .here .state) j) (lastCorrect (S .here .state)) (packetOf (S .here .state) (S .here .slots) (sentBefore (S .here .state) j)) ∷ []))
-inv-repeated s S j ms r I h may =
+inv-repeated s S j ms c r I h may =
     let l : Link = S .here .state in
     let n : ℕ = length (S .here .takenIn) in
     let f : ℕ = n - 1 - j in
@@ -111,6 +111,7 @@ inv-repeated s S j ms r I h may =
     let bytes : packetIn (dataFrame k (lastCorrect l) packet) (length packet) ≡ getD (S .here .takenIn) f [] =
     packet-heard k (lastCorrect l) packet ∙ subst (λ x. packetOf l (S .here .slots) x ≡ getD (S .here .takenIn) f []) number (w .holds f (omega (arith, w .window)) (omega (arith, w .window))) in
     inv-turned s S _ _ (l .ackstart) false (l .naked) (l .lost) (dataFrame k (lastCorrect l) packet ∷ []) I (again-sound l k ms (w .sound) may)
+    (set-timed (l .starts) (slotOf l k) ms (w .timed .0) c, w .timed .1)
     (line-data (s .d) (S .here .takenIn) f (length packet) (dataFrame k (lastCorrect l) packet) (S .there .queue) heard-as bytes lo (omega (arith, w .window)) (omega (arith, w .window)) (I .toThere))
 
 -- a control NAK
@@ -120,7 +121,7 @@ inv-nakked s S r I =
     let l : Link = S .here .state in
     let k : ℕ = (lastCorrect l + 1) % 4 in
     let heard-as : heard (s .d) (nakFrame k) ≡ Nak k = nak-heard (s .d) k (omega arith) (omega (arith, r .d-lo)) in
-    inv-turned s S (l .starts) (l .counts) (l .ackstart) (l .acking) true (l .lost) (nakFrame k ∷ []) I (marked-sound l (l .ackstart) (l .acking) true (l .lost) (I .here .sound))
+    inv-turned s S (l .starts) (l .counts) (l .ackstart) (l .acking) true (l .lost) (nakFrame k ∷ []) I (marked-sound l (l .ackstart) (l .acking) true (l .lost) (I .here .sound)) (I .here .timed)
     (line-idle (s .d) (S .here .takenIn) (nakFrame k) (S .there .queue) (subst Idle (sym heard-as) (a-nak k)) (I .toThere))
 
 -- ---- how each maker ends a call
@@ -162,10 +163,10 @@ ends-nak s S frame q answer r h I = go (S .here .state .naked)
     go true = ends-nothing s S frame q answer I
     go false = ends-sent s S (marked (S .here .state)) (nakFrame k) frame q answer (omega (arith, five (0xA0 + k))) (omega (arith, five (0xA0 + k))) (inv-nakked s (restated S (S .here .state) q) r I)
 
-pub ends-repeat : (s : Settings) (S : System) (j ms : ℕ) (frame : List ℕ) (q : List (List ℕ)) (answer : ℕ) → InRange s → s .d ≤ length frame → Before s S q
+pub ends-repeat : (s : Settings) (S : System) (j ms : ℕ) (frame : List ℕ) (q : List (List ℕ)) (answer : ℕ) → IsClock ms → InRange s → s .d ≤ length frame → Before s S q
     → j < S .here .state .waiting → mayRepeat (S .here .state) (sentBefore (S .here .state) j) ≡ true
     → Inv s (called S (ends (sendsRepeat (S .here .state) (S .here .slots) frame ms (sentBefore (S .here .state) j)) answer 0 (S .here .slots)) q [] [])
-ends-repeat s S j ms frame q answer r room I h may =
+ends-repeat s S j ms frame q answer c r room I h may =
     let l : Link = S .here .state in
     let k : ℕ = sentBefore l j in
     let packet : List ℕ = packetOf l (S .here .slots) k in
@@ -174,4 +175,4 @@ ends-repeat s S j ms frame q answer r room I h may =
     let formed : Formed l = wellFormed-facts l (I .here .sound .formed) in
     let len : length packet ≡ lengthOf l k = waiting-length s (restated S l q .here) (S .there .takenIn) (I .freedHere) (I .gotHere) j (I .here) h in
     let d : l .settings .d ≡ s .d = ap (λ (x : Settings). x .d) (I .here .settings) in
-    ends-sent s S (again l k ms) bytes frame q answer (omega arith) (omega (arith, formed .lengths j h .most, r .d-lo)) (inv-repeated s (restated S l q) j ms r I h may)
+    ends-sent s S (again l k ms) bytes frame q answer (omega arith) (omega (arith, formed .lengths j h .most, r .d-lo)) (inv-repeated s (restated S l q) j ms c r I h may)

@@ -2,11 +2,11 @@
 use mathlib.Core.Path.{_≡_, refl, sym, ap, subst, _∙_}
 use mathlib.Core.Bool.{Bool, true, false, cond}
 use mathlib.Core.List.{List, [], _∷_, _++_, append-nil}
-use Prim.Native.Nat.{ℕ, suc, _%_, _+_, _-_, _*_, _≤_, _<_, max}
+use Prim.Native.Nat.{ℕ, zero, suc, _%_, _+_, _-_, _*_, _≤_, _<_, max}
 use native.Mathlib.Omega.{arith}
 use borrow.Author.Tests.{ltb-true, ltb-false, eqb-true, eqb-false}
 use lib.ListN.{length, take, drop, getD, set, length-append, List·getD-append}
-use lib.Seq.{take-suc, take-append-le}
+use lib.Seq.{take-suc, take-append-le, getD-set-same, getD-set-other, set-out}
 use lib.Dec.{ltb, eqb}
 use Rattle.frame.specs.declared.Heard.the-variants.{Ack, Data}
 use Rattle.frame.specs.Steps.{heard, packetIn}
@@ -23,12 +23,29 @@ use Rattle.send.specs.Submit.{sentFirst}
 use Rattle.pair.proofs.Slots.{new-packet, old-packet}
 use Rattle.receive.proofs.Keeps.{freed-sound, afterDelivery-sound}
 use Rattle.receive.specs.Steps.{freed, afterDelivery}
-use Rattle.pair.specs.System.{Side, System, swap, Harm, freshSide}
+use Rattle.pair.specs.System.{Side, System, swap, Harm, freshSide, IsClock}
 use Rattle.pair.proofs.Line.{Line, clear, line-taken, line-freed, line-mono, line-tail, line-harm, line-data, line-more}
+
+-- the start times are clock values
+abbrev pub Timed : Link → Type 0
+Timed l = ((i : ℕ) → IsClock (getD (l .starts) i 0)) × IsClock (l .ackstart)
+
+pub set-timed : (starts : List ℕ) (slot ms : ℕ) → ((i : ℕ) → IsClock (getD starts i 0)) → IsClock ms → (i : ℕ) → IsClock (getD (set starts slot ms) i 0)
+set-timed starts slot ms f c i = go (eqb i slot) (ltb slot (length starts)) refl refl
+  where
+    go : (same inside : Bool) → eqb i slot ≡ same → ltb slot (length starts) ≡ inside → IsClock (getD (set starts slot ms) i 0)
+    go true true e h = subst (λ k. IsClock (getD (set starts slot ms) k 0)) (sym (eqb-true i slot e)) (omega (arith, getD-set-same starts slot ms 0 (ltb-true slot (length starts) h)))
+    go true false e h = subst (λ (x : List ℕ). IsClock (getD x i 0)) (sym (set-out starts slot ms (ltb-false slot (length starts) h))) (f i)
+    go false h e k = omega (arith, getD-set-other starts slot i ms 0 (eqb-false i slot e), f i)
+
+cond-timed : (t : Bool) (a b : ℕ) → IsClock a → IsClock b → IsClock (cond t a b)
+cond-timed true a b p q = p
+cond-timed false a b p q = q
 
 -- an end: t is what the other end has taken, b how many of this end's packets are freed, g how many of the other's are delivered here
 pub record Way (s : Settings) (x : Side) (t : List (List ℕ)) (b g : ℕ) : Type 0 where
   pub sound : Sound (x .state)
+  pub timed : Timed (x .state)
   pub settings : x .state .settings ≡ s
   pub room : slotsNeed s ≤ length (x .slots)
   pub next : x .state .next ≡ length (x .takenIn) % 4
@@ -77,9 +94,11 @@ turned S l queue sent = record {
 
 pub way-changed : (s : Settings) (x : Side) (t : List (List ℕ)) (b g : ℕ) (starts counts : List ℕ) (ackstart : ℕ) (acking naked lost : Bool) (queue : List (List ℕ))
     → Way s x t b g → Sound (changed (x .state) starts counts ackstart (x .state .expected) (x .state .waiting) acking naked lost)
+    → Timed (changed (x .state) starts counts ackstart (x .state .expected) (x .state .waiting) acking naked lost)
     → Way s (record { state = changed (x .state) starts counts ackstart (x .state .expected) (x .state .waiting) acking naked lost; slots = x .slots; queue = queue; takenIn = x .takenIn; delivered = x .delivered }) t b g
-way-changed s x t b g starts counts ackstart acking naked lost queue w k = record {
+way-changed s x t b g starts counts ackstart acking naked lost queue w k c = record {
   sound = k;
+  timed = c;
   settings = w .settings;
   room = w .room;
   next = w .next;
@@ -94,6 +113,7 @@ way-there : (s : Settings) (x : Side) (t : List (List ℕ)) (b g : ℕ) (queue :
     → Way s (record { state = x .state; slots = x .slots; queue = queue; takenIn = x .takenIn; delivered = x .delivered }) t b g
 way-there s x t b g queue w = record {
   sound = w .sound;
+  timed = w .timed;
   settings = w .settings;
   room = w .room;
   next = w .next;
@@ -133,14 +153,16 @@ restated S l queue = record {
 -- marks, timers and counts change, and frames are sent
 pub inv-turned : (s : Settings) (S : System) (starts counts : List ℕ) (ackstart : ℕ) (acking naked lost : Bool) (sent : List (List ℕ)) (I : Inv s S)
     → Sound (changed (S .here .state) starts counts ackstart (S .here .state .expected) (S .here .state .waiting) acking naked lost)
+    → Timed (changed (S .here .state) starts counts ackstart (S .here .state .expected) (S .here .state .waiting) acking naked lost)
     → Line (s .d) (S .here .takenIn) (I .gotThere) (I .freedThere) (I .gotHere) (S .there .queue ++ sent)
     → Inv s (turned S (changed (S .here .state) starts counts ackstart (S .here .state .expected) (S .here .state .waiting) acking naked lost) (S .here .queue) sent)
-inv-turned s S starts counts ackstart acking naked lost sent I k w = record {
+inv-turned s S starts counts ackstart acking naked lost sent I k c w = record {
   freedHere = I .freedHere;
   freedThere = I .freedThere;
   gotHere = I .gotHere;
   gotThere = I .gotThere;
-  here = way-changed s (S .here) (S .there .takenIn) (I .freedHere) (I .gotHere) starts counts ackstart acking naked lost (S .here .queue) (I .here) k;
+  here = way-changed s (S .here) (S .there .takenIn) (I .freedHere) (I .gotHere) starts counts ackstart acking naked lost (S .here .queue) (I .here) k
+    c;
   there = way-there s (S .there) (S .here .takenIn) (I .freedThere) (I .gotThere) (S .there .queue ++ sent) (I .there);
   toHere = I .toHere;
   toThere = w;
@@ -172,6 +194,7 @@ inv-freed s S x q I lo w =
       gotThere = I .gotThere;
       here = record {
         sound = freed-sound l ((x + 3) % 4) (I .here .sound);
+        timed = I .here .timed;
         settings = I .here .settings;
         room = I .here .room;
         next = I .here .next;
@@ -194,10 +217,10 @@ delivering S l queue packet = record {
   there = S .there;
 }
 
-pub inv-delivered : (s : Settings) (S : System) (ms x : ℕ) (q : List (List ℕ)) (packet : List ℕ) (I : Inv s S) → I .freedHere ≤ x → I .gotHere < length (S .there .takenIn)
+pub inv-delivered : (s : Settings) (S : System) (ms x : ℕ) (q : List (List ℕ)) (packet : List ℕ) (I : Inv s S) → IsClock ms → I .freedHere ≤ x → I .gotHere < length (S .there .takenIn)
     → packet ≡ getD (S .there .takenIn) (I .gotHere) [] → Line (s .d) (S .there .takenIn) (suc (I .gotHere)) x (I .gotThere) q
     → Inv s (delivering S (afterDelivery (freed (S .here .state) ((x + 3) % 4)) ms) q packet)
-inv-delivered s S ms x q packet I lo more p w =
+inv-delivered s S ms x q packet I c lo more p w =
     let t : List (List ℕ) = S .there .takenIn in
     let l : Link = S .here .state in
     let g : ℕ = I .gotHere in
@@ -209,6 +232,7 @@ inv-delivered s S ms x q packet I lo more p w =
       gotThere = I .gotThere;
       here = record {
         sound = afterDelivery-sound (freed l ((x + 3) % 4)) ms (freed-sound l ((x + 3) % 4) (I .here .sound));
+        timed = (I .here .timed .0, cond-timed (l .acking) (l .ackstart) ms (I .here .timed .1) c);
         settings = I .here .settings;
         room = I .here .room;
         next = I .here .next;
@@ -290,12 +314,12 @@ added-holds s x t b g packet ms w hi place f lo lt = go (eqb f n) refl
         ∙ w .holds f lo below
         ∙ sym (List·getD-append (x .takenIn) (packet ∷ []) [] f below)
 
-pub inv-added : (s : Settings) (S : System) (packet frame : List ℕ) (ms : ℕ) (I : Inv s S) → Sound (sentFirst (S .here .state) ms (length packet))
+pub inv-added : (s : Settings) (S : System) (packet frame : List ℕ) (ms : ℕ) (I : Inv s S) → IsClock ms → Sound (sentFirst (S .here .state) ms (length packet))
     → 1 ≤ length packet → length packet ≤ limitOf (S .here .state .settings) → S .here .state .waiting < S .here .state .settings .window
     → length (put (S .here .slots) (partOf (S .here .state) (S .here .state .next)) packet) ≡ length (S .here .slots)
     → heard (s .d) frame ≡ Data (S .here .state .next) false ((I .gotHere + 3) % 4) (length packet) → packetIn frame (length packet) ≡ packet
     → Inv s (adding S (sentFirst (S .here .state) ms (length packet)) (put (S .here .slots) (partOf (S .here .state) (S .here .state .next)) packet) packet (frame ∷ []))
-inv-added s S packet frame ms I k lo hi place same m p =
+inv-added s S packet frame ms I c k lo hi place same m p =
     let t : List (List ℕ) = S .here .takenIn in
     let n : ℕ = length t in
     let longer : length (t ++ (packet ∷ [])) ≡ n + 1 = length-append t (packet ∷ []) in
@@ -309,6 +333,7 @@ inv-added s S packet frame ms I k lo hi place same m p =
       gotThere = I .gotThere;
       here = record {
         sound = k;
+        timed = (set-timed (S .here .state .starts) (slotOf (S .here .state) (S .here .state .next)) ms (I .here .timed .0) c, I .here .timed .1);
         settings = I .here .settings;
         room = rw same (I .here .room);
         next = rw longer (omega (arith, I .here .next));
@@ -320,6 +345,7 @@ inv-added s S packet frame ms I k lo hi place same m p =
       };
       there = record {
         sound = I .there .sound;
+        timed = I .there .timed;
         settings = I .there .settings;
         room = I .there .room;
         next = I .there .next;
@@ -350,10 +376,16 @@ inv-harm s S q k I = record {
 
 -- ---- the start
 
+no-starts : (i : ℕ) → IsClock (getD (0 ∷ 0 ∷ []) i 0)
+no-starts zero = omega arith
+no-starts (suc zero) = omega arith
+no-starts (suc (suc i)) = omega arith
+
 fresh-way : (s : Settings) (slots : List ℕ) → InRange s → slotsNeed s ≤ length slots → Way s (freshSide s slots) [] 0 0
 unfolding freshOf
 fresh-way s slots r h = record {
   sound = fresh-sound s r;
+  timed = (no-starts, omega arith);
   settings = refl;
   room = h;
   next = refl;

@@ -35,7 +35,7 @@ use Rattle.send.proofs.Keeps.{dataSent-sound, queued-sound}
 use Rattle.clock.specs.Look.{packetDue, acknowledgeDue, afterOldest, exhausted, served, acknowledgedIf, lookedAt, looked, acknowledgedNow}
 use Rattle.receive.specs.Steps.{freed, repeatable, afterDelivery}
 use Rattle.receive.specs.Take.{obeyed, taken, dataTaken}
-use Rattle.pair.specs.System.{Side, System, swap, sentBy, takenBy, deliveredBy, leftBy, called, submits, takes, looks, acknowledges, Harm, Move, submit, take-head, look, acknowledge, harm, Moment, start, here, there}
+use Rattle.pair.specs.System.{Side, System, swap, sentBy, takenBy, deliveredBy, leftBy, called, submits, takes, looks, acknowledges, Harm, IsClock, Move, submit, take-head, look, acknowledge, harm, Moment, start, here, there}
 use Rattle.pair.specs.Demand3.{FirstSoMany}
 use Rattle.pair.proofs.Line.{Line, data-next, ack-next, idle-next, Idle, by-size, by-sum, a-nak, line-taken, line-freed, line-mono}
 use Rattle.pair.proofs.Invariant.{Way, Inv, inv-swap, turned, restated, delivering, adding, inv-turned, inv-passed, inv-freed, inv-delivered, inv-added, inv-harm, inv-start, inv-first, window-small}
@@ -48,12 +48,12 @@ abbrev taking : System → List ℕ → List (List ℕ) → After Outcome → Sy
 taking S received rest a = called S a (leftBy a received rest) [] (deliveredBy a received)
 
 -- a damaged frame or a NAK
-idle-kept : (s : Settings) (S : System) (frame received : List ℕ) (rest : List (List ℕ)) (ms : ℕ) (h : Heard) → InRange s → s .d ≤ length frame → Before s S rest
+idle-kept : (s : Settings) (S : System) (frame received : List ℕ) (rest : List (List ℕ)) (ms : ℕ) (h : Heard) → IsClock ms → InRange s → s .d ≤ length frame → Before s S rest
     → acknowledgedIn h ≤ 3 → Idle h → Inv s (taking S received rest (obeyed (S .here .state) (S .here .slots) frame ms h))
 unfolding obeyed
-idle-kept s S frame received rest ms Size r room I small by-size = ends-nak s S frame rest 6 r (omega (arith, r .d-lo)) I
-idle-kept s S frame received rest ms Sum r room I small by-sum = ends-nak s S frame rest 6 r (omega (arith, r .d-lo)) I
-idle-kept s S frame received rest ms (Nak k) r room I small (a-nak k₁) = go (repeatable l k) refl
+idle-kept s S frame received rest ms Size c r room I small by-size = ends-nak s S frame rest 6 r (omega (arith, r .d-lo)) I
+idle-kept s S frame received rest ms Sum c r room I small by-sum = ends-nak s S frame rest 6 r (omega (arith, r .d-lo)) I
+idle-kept s S frame received rest ms (Nak k) c r room I small (a-nak k₁) = go (repeatable l k) refl
   where
     l : Link
     l = S .here .state
@@ -65,7 +65,7 @@ idle-kept s S frame received rest ms (Nak k) r room I small (a-nak k₁) = go (r
         let wait : behind l k < l .waiting = ltb-true (behind l k) (l .waiting) (and-left (waits l k) (mayRepeat l k) e) in
         let may : mayRepeat l k ≡ true = and-right (waits l k) (mayRepeat l k) e in
         subst (λ n. Inv s (taking S received rest (ends (sendsRepeat l (S .here .slots) frame ms n) done 0 (S .here .slots)))) same
-        (ends-repeat s S (behind l k) ms frame rest done r room I wait (subst (λ n. mayRepeat l n ≡ true) (sym same) may))
+        (ends-repeat s S (behind l k) ms frame rest done c r room I wait (subst (λ n. mayRepeat l n ≡ true) (sym same) may))
     go false e = ends-nothing s S frame rest done I
 
 -- data that is not the expected one
@@ -81,12 +81,12 @@ called-delivering : (S : System) (l : Link) (frame received : List ℕ) (rest : 
 called-delivering S l frame received rest len h = rw (ne-eqb len 0 (λ q. omega arith), append-nil (S .here .takenIn), append-nil (S .there .queue))
 
 -- data
-data-kept : (s : Settings) (S : System) (frame received : List ℕ) (rest : List (List ℕ)) (ms f x len : ℕ) (I : Inv s S) → InRange s → s .d ≤ length frame
+data-kept : (s : Settings) (S : System) (frame received : List ℕ) (rest : List (List ℕ)) (ms f x len : ℕ) (I : Inv s S) → IsClock ms → InRange s → s .d ≤ length frame
     → packetIn received len ≡ getD (S .there .takenIn) f [] → 1 ≤ len → I .gotHere ≤ f + 2 → I .freedHere ≤ x
     → Line (s .d) (S .there .takenIn) (max (I .gotHere) (suc f)) x (I .gotThere) rest
     → Inv s (taking S received rest (obeyed (S .here .state) (S .here .slots) frame ms (Data (f % 4) false ((x + 3) % 4) len)))
 unfolding obeyed dataTaken
-data-kept s S frame received rest ms f x len I r room p lo u v w = go (eqb (f % 4) (l .expected)) refl
+data-kept s S frame received rest ms f x len I c r room p lo u v w = go (eqb (f % 4) (l .expected)) refl
   where
     l : Link
     l = S .here .state
@@ -108,7 +108,7 @@ data-kept s S frame received rest ms f x len I r room p lo u v w = go (eqb (f % 
         let next : max g (suc f) ≡ suc g = omega arith in
         let packet : packetIn received len ≡ getD t g [] = p ∙ ap (λ (k : ℕ). getD t k []) same in
         subst (Inv s) (sym (called-delivering S (afterDelivery (freed l ((x + 3) % 4)) ms) frame received rest len lo))
-        (inv-delivered s S ms x rest (packetIn received len) I v (omega arith) packet (subst (λ h. Line (s .d) t h x (I .gotThere) rest) next w))
+        (inv-delivered s S ms x rest (packetIn received len) I c v (omega arith) packet (subst (λ h. Line (s .d) t h x (I .gotThere) rest) next w))
     go false e =
         pass-kept s S frame received rest x r room
         (inv-freed s S x rest I v (line-mono (s .d) t {h = max g (suc f)} {b = x} {e = I .gotThere} {h₁ = g} {b₁ = x} {e₁ = I .gotThere} rest (omega arith) (omega arith) (omega arith) w))
@@ -122,14 +122,14 @@ ack-kept s S frame received rest ms x I v w =
     ends-nothing s (restated S (freed (S .here .state) ((x + 3) % 4)) rest) frame rest done (inv-freed s S x rest I v w)
 
 -- whatever the head of the queue is
-head-kept : (s : Settings) (S : System) (frame received : List ℕ) (rest : List (List ℕ)) (ms : ℕ) (I : Inv s S) → InRange s → s .d ≤ length frame → Before s S rest
+head-kept : (s : Settings) (S : System) (frame received : List ℕ) (rest : List (List ℕ)) (ms : ℕ) (I : Inv s S) → IsClock ms → InRange s → s .d ≤ length frame → Before s S rest
     → Line (s .d) (S .there .takenIn) (I .gotHere) (I .freedHere) (I .gotThere) (received ∷ rest)
     → Inv s (taking S received rest (obeyed (S .here .state) (S .here .slots) frame ms (heard (s .d) received)))
-head-kept s S frame received rest ms I r room J (data-next f x len m p lo u v w) =
-    subst (λ h. Inv s (taking S received rest (obeyed (S .here .state) (S .here .slots) frame ms h))) (sym m) (data-kept s S frame received rest ms f x len I r room p lo u v w)
-head-kept s S frame received rest ms I r room J (ack-next x m v w) =
+head-kept s S frame received rest ms I c r room J (data-next f x len m p lo u v w) =
+    subst (λ h. Inv s (taking S received rest (obeyed (S .here .state) (S .here .slots) frame ms h))) (sym m) (data-kept s S frame received rest ms f x len I c r room p lo u v w)
+head-kept s S frame received rest ms I c r room J (ack-next x m v w) =
     subst (λ h. Inv s (taking S received rest (obeyed (S .here .state) (S .here .slots) frame ms h))) (sym m) (ack-kept s S frame received rest ms x I v w)
-head-kept s S frame received rest ms I r room J (idle-next m w) = idle-kept s S frame received rest ms (heard (s .d) received) r room J (number-heard (s .d) received) m
+head-kept s S frame received rest ms I c r room J (idle-next m w) = idle-kept s S frame received rest ms (heard (s .d) received) c r room J (number-heard (s .d) received) m
 
 -- a call that refused: with 2 the frame is still there, else it is used up
 refused-kept : (s : Settings) (S : System) (frame received : List ℕ) (rest : List (List ℕ)) (g : ℕ) → S .here .queue ≡ received ∷ rest → Inv s S
@@ -140,10 +140,10 @@ refused-kept s S frame received rest g e I = go (eqb g shortBuffer)
     go true = ends-nothing s S frame (received ∷ rest) g (subst (Before s S) e I)
     go false = ends-nothing s S frame rest g (inv-passed s S received rest e I)
 
-pub take-kept : (s : Settings) (S : System) (frame received : List ℕ) (rest : List (List ℕ)) (ms : ℕ) → InRange s → S .here .queue ≡ received ∷ rest → Inv s S
+pub take-kept : (s : Settings) (S : System) (frame received : List ℕ) (rest : List (List ℕ)) (ms : ℕ) → IsClock ms → InRange s → S .here .queue ≡ received ∷ rest → Inv s S
     → Inv s (takes S frame ms received rest)
 unfolding taken
-take-kept s S frame received rest ms r e I =
+take-kept s S frame received rest ms c r e I =
     gated-cases (λ a. Inv s (taking S received rest a)) (gateOf l (length (S .here .slots)) (length frame)) l (S .here .slots) frame
     (obeyed l (S .here .slots) frame ms (heard (l .settings .d) received)) inside (λ n. refused-kept s S frame received rest (gateOf l (length (S .here .slots)) (length frame)) e I)
   where
@@ -158,13 +158,13 @@ take-kept s S frame received rest ms r e I =
         let o : Open l (length (S .here .slots)) (length frame) = gateOf-facts l (length (S .here .slots)) (length frame) q in
         let room : s .d ≤ length frame = subst (λ n. n ≤ length frame) d (o .entered .frame-room) in
         subst (λ n. Inv s (taking S received rest (obeyed l (S .here .slots) frame ms (heard n received)))) (sym d)
-        (head-kept s S frame received rest ms I r room (inv-passed s S received rest e I) (subst (λ z. Line (s .d) (S .there .takenIn) (I .gotHere) (I .freedHere) (I .gotThere) z) e (I .toHere)))
+        (head-kept s S frame received rest ms I c r room (inv-passed s S received rest e I) (subst (λ z. Line (s .d) (S .there .takenIn) (I .gotHere) (I .freedHere) (I .gotThere) z) e (I .toHere)))
 
 -- ---- submit
 
-accepted-kept : (s : Settings) (S : System) (frame packet : List ℕ) (ms : ℕ) → InRange s → Inv s S → Accepting (S .here .state) (length (S .here .slots)) (length frame) (length packet)
+accepted-kept : (s : Settings) (S : System) (frame packet : List ℕ) (ms : ℕ) → IsClock ms → InRange s → Inv s S → Accepting (S .here .state) (length (S .here .slots)) (length frame) (length packet)
     → Inv s (called S (packetAccepted (S .here .state) (S .here .slots) frame ms packet) (S .here .queue) (packet ∷ []) [])
-accepted-kept s S frame packet ms r I a =
+accepted-kept s S frame packet ms c r I a =
     let l : Link = S .here .state in
     let bytes : List ℕ = dataFrame (l .next) (lastCorrect l) packet in
     let size : length bytes ≡ length packet + 5 = frameOf-length (l .next * 4 + lastCorrect l) packet in
@@ -179,15 +179,15 @@ accepted-kept s S frame packet ms r I a =
     let heard-as : heard (s .d) bytes ≡ Data (l .next) false ((I .gotHere + 3) % 4) (length packet) =
     data-heard (s .d) (l .next) (lastCorrect l) packet (formed .next) (omega arith) (a .least) (omega (arith, a .most, r .d-lo)) ∙ ap (λ (k : ℕ). Data (l .next) false k (length packet)) said in
     subst (Inv s) (sym whole)
-    (inv-added s S packet bytes ms I
+    (inv-added s S packet bytes ms I c
     (queued-sound (dataSent l (l .next) ms 0) (length packet) (dataSent-sound l (l .next) ms 0 (I .here .sound) (omega arith)) (a .least) (a .most) (a .place))
     (a .least) (a .most) (a .place) (put-length (S .here .slots) packet (partOf l (l .next)) fits) heard-as (packet-heard (l .next) (lastCorrect l) packet))
 
-pub submit-kept : (s : Settings) (S : System) (frame packet : List ℕ) (ms : ℕ) → InRange s → Inv s S → Inv s (submits S frame ms packet)
+pub submit-kept : (s : Settings) (S : System) (frame packet : List ℕ) (ms : ℕ) → IsClock ms → InRange s → Inv s S → Inv s (submits S frame ms packet)
 unfolding submitted
-submit-kept s S frame packet ms r I =
+submit-kept s S frame packet ms c r I =
     gated-cases (λ a. Inv s (called S a (S .here .queue) (takenBy a packet) [])) g l (S .here .slots) frame (packetAccepted l (S .here .slots) frame ms packet)
-    (λ e. accepted-kept s S frame packet ms r I (submitGate-facts l (length (S .here .slots)) (length frame) (length packet) e)) shut
+    (λ e. accepted-kept s S frame packet ms c r I (submitGate-facts l (length (S .here .slots)) (length frame) (length packet) e)) shut
   where
     l : Link
     l = S .here .state
@@ -200,28 +200,28 @@ submit-kept s S frame packet ms r I =
 
 -- ---- look and acknowledge
 
-served-kept : (s : Settings) (S : System) (frame : List ℕ) (j ms : ℕ) → InRange s → s .d ≤ length frame → Inv s S → j < S .here .state .waiting
+served-kept : (s : Settings) (S : System) (frame : List ℕ) (j ms : ℕ) → IsClock ms → InRange s → s .d ≤ length frame → Inv s S → j < S .here .state .waiting
     → Inv s (called S (served (S .here .state) (S .here .slots) frame ms (sentBefore (S .here .state) j)) (S .here .queue) [] [])
-served-kept s S frame j ms r room I h = go (mayRepeat l (sentBefore l j)) refl
+served-kept s S frame j ms c r room I h = go (mayRepeat l (sentBefore l j)) refl
   where
     l : Link
     l = S .here .state
 
     go : (t : Bool) → mayRepeat l (sentBefore l j) ≡ t
         → Inv s (called S (cond t (ends (sendsRepeat l (S .here .slots) frame ms (sentBefore l j)) done 0 (S .here .slots)) (exhausted l (S .here .slots) frame)) (S .here .queue) [] [])
-    go true e = ends-repeat s S j ms frame (S .here .queue) done r room I h e
+    go true e = ends-repeat s S j ms frame (S .here .queue) done c r room I h e
     go false e = ends-silent s S (withLost l true) frame (S .here .queue) linkLost
-        (inv-turned s S (l .starts) (l .counts) (l .ackstart) (l .acking) (l .naked) true [] I (marked-sound l (l .ackstart) (l .acking) (l .naked) true (I .here .sound)) (rw append-nil (I .toThere)))
+        (inv-turned s S (l .starts) (l .counts) (l .ackstart) (l .acking) (l .naked) true [] I (marked-sound l (l .ackstart) (l .acking) (l .naked) true (I .here .sound)) (I .here .timed) (rw append-nil (I .toThere)))
 
 acknowledged-kept : (s : Settings) (S : System) (frame : List ℕ) (owed : Bool) → InRange s → s .d ≤ length frame → Inv s S
     → Inv s (called S (acknowledgedIf owed (S .here .state) (S .here .slots) frame) (S .here .queue) [] [])
 acknowledged-kept s S frame true r room I = ends-ack s S frame (S .here .queue) done r (omega (arith, r .d-lo)) I
 acknowledged-kept s S frame false r room I = ends-nothing s S frame (S .here .queue) done I
 
-lookedAt-kept : (s : Settings) (S : System) (frame : List ℕ) (ms : ℕ) → InRange s → s .d ≤ length frame → Inv s S
+lookedAt-kept : (s : Settings) (S : System) (frame : List ℕ) (ms : ℕ) → IsClock ms → InRange s → s .d ≤ length frame → Inv s S
     → Inv s (called S (lookedAt (S .here .state) (S .here .slots) frame ms) (S .here .queue) [] [])
 unfolding lookedAt
-lookedAt-kept s S frame ms r room I = go (packetDue l (afterOldest l) ms) (packetDue l 0 ms) refl refl
+lookedAt-kept s S frame ms c r room I = go (packetDue l (afterOldest l) ms) (packetDue l 0 ms) refl refl
   where
     l : Link
     l = S .here .state
@@ -232,8 +232,8 @@ lookedAt-kept s S frame ms r room I = go (packetDue l (afterOldest l) ms) (packe
     go : (first second : Bool) → packetDue l (afterOldest l) ms ≡ first → packetDue l 0 ms ≡ second
         → Inv s (called S (cond first (served l (S .here .slots) frame ms (sentBefore l (afterOldest l)))
         (cond second (served l (S .here .slots) frame ms (sentBefore l 0)) (acknowledgedIf (acknowledgeDue l ms) l (S .here .slots) frame))) (S .here .queue) [] [])
-    go true second e e₁ = served-kept s S frame (afterOldest l) ms r room I (waits-so (afterOldest l) e)
-    go false true e e₁ = served-kept s S frame 0 ms r room I (waits-so 0 e₁)
+    go true second e e₁ = served-kept s S frame (afterOldest l) ms c r room I (waits-so (afterOldest l) e)
+    go false true e e₁ = served-kept s S frame 0 ms c r room I (waits-so 0 e₁)
     go false false e e₁ = acknowledged-kept s S frame (acknowledgeDue l ms) r room I
 
 -- behind the gate 1, 2, 3, with a queue that stays
@@ -248,9 +248,9 @@ open-kept s S frame inside I f =
     l : Link
     l = S .here .state
 
-pub look-kept : (s : Settings) (S : System) (frame : List ℕ) (ms : ℕ) → InRange s → Inv s S → Inv s (looks S frame ms)
+pub look-kept : (s : Settings) (S : System) (frame : List ℕ) (ms : ℕ) → IsClock ms → InRange s → Inv s S → Inv s (looks S frame ms)
 unfolding looked
-look-kept s S frame ms r I = open-kept s S frame (lookedAt (S .here .state) (S .here .slots) frame ms) I (λ room. lookedAt-kept s S frame ms r room I)
+look-kept s S frame ms c r I = open-kept s S frame (lookedAt (S .here .state) (S .here .slots) frame ms) I (λ room. lookedAt-kept s S frame ms c r room I)
 
 pub acknowledge-kept : (s : Settings) (S : System) (frame : List ℕ) → InRange s → Inv s S → Inv s (acknowledges S frame)
 unfolding acknowledgedNow
@@ -260,9 +260,9 @@ acknowledge-kept s S frame r I =
 -- ---- every move, every moment
 
 pub move-kept : (s : Settings) (S T : System) → InRange s → Move S T → Inv s S → Inv s T
-move-kept s S T r (submit frame packet ms c) I = submit-kept s S frame packet ms r I
-move-kept s S T r (take-head frame received rest ms c e) I = take-kept s S frame received rest ms r e I
-move-kept s S T r (look frame ms c) I = look-kept s S frame ms r I
+move-kept s S T r (submit frame packet ms c) I = submit-kept s S frame packet ms c r I
+move-kept s S T r (take-head frame received rest ms c e) I = take-kept s S frame received rest ms c r e I
+move-kept s S T r (look frame ms c) I = look-kept s S frame ms c r I
 move-kept s S T r (acknowledge frame) I = acknowledge-kept s S frame r I
 move-kept s S T r (harm queue k) I = inv-harm s S queue (subst (λ (x : Settings). Harm (x .d) (S .here .queue) queue) (I .here .settings) k) I
 
