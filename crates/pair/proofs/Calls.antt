@@ -4,7 +4,7 @@ use mathlib.Core.Bool.{Bool, true, false, cond, _&&_}
 use mathlib.Core.List.{List, [], _∷_, _++_, append-nil}
 use Prim.Native.Nat.{ℕ, suc, _%_, _+_, _-_, _*_, _≤_, _<_, max}
 use native.Mathlib.Omega.{arith}
-use borrow.Author.Tests.{ltb-true, eqb-true, eqb-false, ne-eqb}
+use borrow.Author.Tests.{ltb-true, eqb-true, eqb-false, ne-eqb, eq-eqb}
 use lib.ListN.{length, take, drop, getD, length-take, length-drop}
 use lib.Seq.{length-take-le}
 use lib.Dec.{eqb, ltb}
@@ -56,6 +56,9 @@ gated-cases P g l slots frame inside opened shut = go (eqb g done) refl
     go : (t : Bool) → eqb g done ≡ t → P (cond t inside (refused l g slots frame))
     go true e = opened (eqb-true g done e)
     go false e = shut (eqb-false g done e)
+
+pub gated-open : (g : ℕ) (l : Link) (slots frame : List ℕ) (inside : After Outcome) → g ≡ done → gated g l slots frame inside ≡ inside
+gated-open g l slots frame inside e = rw (eq-eqb g done e)
 
 -- ---- nothing but a frame sent
 

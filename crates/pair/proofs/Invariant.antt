@@ -162,7 +162,7 @@ inv-turned s S starts counts ackstart acking naked lost sent I k c w = record {
   gotHere = I .gotHere;
   gotThere = I .gotThere;
   here = way-changed s (S .here) (S .there .takenIn) (I .freedHere) (I .gotHere) starts counts ackstart acking naked lost (S .here .queue) (I .here) k
-    c;
+      c;
   there = way-there s (S .there) (S .here .takenIn) (I .freedThere) (I .gotThere) (S .there .queue ++ sent) (I .there);
   toHere = I .toHere;
   toThere = w;

@@ -3,3 +3,5 @@ pub mod Slots
 pub mod Invariant
 pub mod Calls
 pub mod Moves
+pub mod Measure
+pub mod Falls

@@ -54,7 +54,7 @@ pub data Passes (S : System) (ms : ℕ) : ℕ → Type 0 where
 -- "look at the clock at each end until it sends nothing"
 pub data Looks (ms : ℕ) : System → System → Type 0 where
   nothing : (S : System) (frame : List ℕ) → Enough S frame → lookOf S frame ms .told .sent ≡ 0 → Looks ms S (looks S frame ms)
-  sends : (S T : System) (frame : List ℕ) → Enough S frame → (lookOf S frame ms .told .sent ≡ 0 → ⊥) → Looks ms (looks S frame ms) T → Looks ms S T
+  sends-on : (S T : System) (frame : List ℕ) → Enough S frame → (lookOf S frame ms .told .sent ≡ 0 → ⊥) → Looks ms (looks S frame ms) T → Looks ms S T
 
 -- ---- rounds
 
