@@ -1,38 +1,33 @@
 -- Each call of an end keeps what holds at every moment. Assumes nothing.
 use mathlib.Core.Path.{_≡_, refl, sym, ap, subst, _∙_}
-use mathlib.Core.Bool.{Bool, true, false, cond, _&&_}
-use mathlib.Core.List.{List, [], _∷_, _++_, append-nil}
-use Prim.Native.Nat.{ℕ, suc, _%_, _+_, _-_, _*_, _≤_, _<_, max}
+use mathlib.Core.Bool.{Bool, true, false, cond}
+use mathlib.Core.List.{List, [], _∷_, append-nil}
+use Prim.Native.Nat.{ℕ, _%_, _+_, _-_, _*_, _≤_, _<_}
 use native.Mathlib.Omega.{arith}
-use borrow.Author.Tests.{ltb-true, eqb-true, eqb-false, ne-eqb, eq-eqb}
-use lib.ListN.{length, take, drop, getD, length-take, length-drop}
-use lib.Seq.{length-take-le}
-use lib.Dec.{eqb, ltb}
-use Rattle.base.specs.Answer.{done, shortBuffer, unexpected}
-use Rattle.base.specs.Buffer.{put}
-use Rattle.base.proofs.Put.{put-take, put-length}
-use Rattle.base.proofs.Tests.{and-left, and-right}
-use Rattle.frame.specs.declared.Heard.{Heard}
-use Rattle.frame.specs.declared.Heard.the-variants.{Size, Sum, Ack, Nak, Data}
+use borrow.Author.Tests.{eqb-true, eqb-false, ne-eqb, eq-eqb}
+use lib.ListN.{length, getD, set, length-take, length-drop}
+use lib.Dec.{eqb}
+use Rattle.base.specs.Answer.{done}
+use Rattle.base.proofs.Put.{put-take}
+use Rattle.frame.specs.declared.Heard.the-variants.{Ack, Nak, Data}
 use Rattle.frame.specs.Bytes.{frameOf, dataFrame, ackFrame, nakFrame}
-use Rattle.frame.specs.Steps.{heard, packetIn, refusalOf}
+use Rattle.frame.specs.Steps.{heard, packetIn}
 use Rattle.frame.proofs.Writing.{frameOf-length}
 use Rattle.frame.proofs.Hearing.{data-heard, packet-heard, ack-heard, nak-heard}
 use Rattle.state.specs.declared.Settings.{Settings}
 use Rattle.state.specs.declared.Link.{Link}
 use Rattle.state.specs.declared.Outcome.{Outcome}
-use Rattle.state.specs.Bounds.{limitOf, slotsNeed, frameNeed}
-use Rattle.state.specs.State.{lastCorrect, behind, waits, sentBefore, slotOf, lengthOf}
-use Rattle.state.specs.Gate.{After, after, refused, gated, gateOf}
-use Rattle.state.specs.Formed.{InRange, Formed, Sound, Open}
-use Rattle.state.proofs.Facts.{wellFormed-facts, gateOf-facts, slotOf-lt, part-inside}
+use Rattle.state.specs.Bounds.{limitOf, slotsNeed}
+use Rattle.state.specs.State.{lastCorrect, sentBefore, slotOf, lengthOf, countOf}
+use Rattle.state.specs.Gate.{After, refused, gated}
+use Rattle.state.specs.Formed.{InRange, Formed}
+use Rattle.state.proofs.Facts.{wellFormed-facts, slotOf-lt, part-inside}
 use Rattle.state.proofs.Keeps.{marked-sound}
 use Rattle.send.specs.Repeat.{partOf, packetOf, again, mayRepeat}
-use Rattle.send.specs.Makers.{Sending, sends, silent, ends, quiet, marked, sendsRepeat, sendsAck, sendsNak}
-use Rattle.send.proofs.Facts.{part-fits}
+use Rattle.send.specs.Makers.{sends, silent, ends, quiet, marked, sendsRepeat, sendsAck, sendsNak}
 use Rattle.send.proofs.Keeps.{again-sound, quiet-sound}
 use Rattle.pair.specs.System.{Side, System, sentBy, called, IsClock}
-use Rattle.pair.proofs.Line.{Line, Idle, by-size, by-sum, a-nak, line-data, line-ack, line-idle}
+use Rattle.pair.proofs.Line.{Idle, a-nak, line-data, line-ack, line-idle}
 use Rattle.pair.proofs.Invariant.{Way, Inv, set-timed, turned, restated, inv-turned, window-small}
 
 -- ---- what a call leaves
@@ -79,7 +74,7 @@ inv-acked s S r I =
     (line-ack (s .d) (S .here .takenIn) (ackFrame (lastCorrect l)) (S .there .queue) (ack-heard (s .d) (lastCorrect l) (omega arith) (omega (arith, r .d-lo)) ∙ ap Ack a) (I .toThere))
 
 -- the packet that j were sent after lies in the slots, and is as long as the state says
-waiting-length : (s : Settings) (x : Side) (t : List (List ℕ)) (b g j : ℕ) → Way s x t b g → j < x .state .waiting
+pub waiting-length : (s : Settings) (x : Side) (t : List (List ℕ)) (b g j : ℕ) → Way s x t b g → j < x .state .waiting
     → length (packetOf (x .state) (x .slots) (sentBefore (x .state) j)) ≡ lengthOf (x .state) (sentBefore (x .state) j)
 waiting-length s x t b g j w h =
     let l : Link = x .state in
@@ -90,30 +85,39 @@ waiting-length s x t b g j w h =
     part-inside (slotOf l k) (l .settings .window) (limitOf (l .settings)) (lengthOf l k) (length (x .slots)) (slotOf-lt l k (formed .settings .window-lo)) (formed .lengths j h .most) room in
     simp (length-take, length-drop) (omega arith)
 
+-- so its frame is heard as it is meant
+pub repeat-heard : (s : Settings) (x : Side) (t : List (List ℕ)) (b g j : ℕ) → InRange s → Way s x t b g → j < x .state .waiting
+    → heard (s .d) (dataFrame (sentBefore (x .state) j) (lastCorrect (x .state)) (packetOf (x .state) (x .slots) (sentBefore (x .state) j)))
+    ≡ Data (sentBefore (x .state) j) false (lastCorrect (x .state)) (length (packetOf (x .state) (x .slots) (sentBefore (x .state) j)))
+repeat-heard s x t b g j r w h =
+    let l : Link = x .state in
+    let k : ℕ = sentBefore l j in
+    let packet : List ℕ = packetOf l (x .slots) k in
+    let formed : Formed l = wellFormed-facts l (w .sound .formed) in
+    let len : length packet ≡ lengthOf l k = waiting-length s x t b g j w h in
+    let d : l .settings .d ≡ s .d = ap (λ (y : Settings). y .d) (w .settings) in
+    data-heard (s .d) k (lastCorrect l) packet (omega arith) (omega arith) (omega (arith, len, formed .lengths j h .least)) (omega (arith, len, formed .lengths j h .most, r .d-lo))
+
 -- a packet that waits, repeated: the one that j were sent after
 pub inv-repeated : (s : Settings) (S : System) (j ms : ℕ) → IsClock ms → InRange s → Inv s S → j < S .here .state .waiting → mayRepeat (S .here .state) (sentBefore (S .here .state) j) ≡ true
     → Inv s (turned S (again (S .here .state) (sentBefore (S .here .state) j) ms) (S .here .queue)
     (dataFrame (sentBefore (S .here .state) j) (lastCorrect (S .here .state)) (packetOf (S .here .state) (S .here .slots) (sentBefore (S .here .state) j)) ∷ []))
 inv-repeated s S j ms c r I h may =
     let l : Link = S .here .state in
-    let n : ℕ = length (S .here .takenIn) in
-    let f : ℕ = n - 1 - j in
+    let f : ℕ = length (S .here .takenIn) - 1 - j in
     let k : ℕ = sentBefore l j in
     let w : Way s (S .here) (S .there .takenIn) (I .freedHere) (I .gotHere) = I .here in
-    let formed : Formed l = wellFormed-facts l (w .sound .formed) in
     let small : l .waiting ≤ 2 = window-small s (S .here) (S .there .takenIn) (I .freedHere) (I .gotHere) w in
     let number : f % 4 ≡ k = omega (arith, w .next, w .window) in
     let packet : List ℕ = packetOf l (S .here .slots) k in
     let len : length packet ≡ lengthOf l k = waiting-length s (S .here) (S .there .takenIn) (I .freedHere) (I .gotHere) j w h in
     let a : lastCorrect l ≡ (I .gotHere + 3) % 4 = last-said s (S .here) (S .there .takenIn) (I .freedHere) (I .gotHere) w in
-    let lo : 1 ≤ length packet = omega (arith, len, formed .lengths j h .least) in
-    let d : l .settings .d ≡ s .d = ap (λ (x : Settings). x .d) (w .settings) in
-    let hi : length packet + 5 ≤ s .d = omega (arith, len, formed .lengths j h .most, r .d-lo) in
+    let lo : 1 ≤ length packet = omega (arith, len, wellFormed-facts l (w .sound .formed) .lengths j h .least) in
     let heard-as : heard (s .d) (dataFrame k (lastCorrect l) packet) ≡ Data (f % 4) false ((I .gotHere + 3) % 4) (length packet) =
-    data-heard (s .d) k (lastCorrect l) packet (omega arith) (omega arith) lo hi ∙ rw (number, a) in
+    repeat-heard s (S .here) (S .there .takenIn) (I .freedHere) (I .gotHere) j r w h ∙ rw (number, a) in
     let bytes : packetIn (dataFrame k (lastCorrect l) packet) (length packet) ≡ getD (S .here .takenIn) f [] =
     packet-heard k (lastCorrect l) packet ∙ subst (λ x. packetOf l (S .here .slots) x ≡ getD (S .here .takenIn) f []) number (w .holds f (omega (arith, w .window)) (omega (arith, w .window))) in
-    inv-turned s S _ _ (l .ackstart) false (l .naked) (l .lost) (dataFrame k (lastCorrect l) packet ∷ []) I (again-sound l k ms (w .sound) may)
+    inv-turned s S (set (l .starts) (slotOf l k) ms) (set (l .counts) (slotOf l k) (countOf l k + 1)) (l .ackstart) false (l .naked) (l .lost) (dataFrame k (lastCorrect l) packet ∷ []) I (again-sound l k ms (w .sound) may)
     (set-timed (l .starts) (slotOf l k) ms (w .timed .0) c, w .timed .1)
     (line-data (s .d) (S .here .takenIn) f (length packet) (dataFrame k (lastCorrect l) packet) (S .there .queue) heard-as bytes lo (omega (arith, w .window)) (omega (arith, w .window)) (I .toThere))
 

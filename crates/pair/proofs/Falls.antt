@@ -1,12 +1,12 @@
 -- Twenty-four rounds: a measure that nothing in a quiet continuation raises, and that each served timer lowers. Assumes nothing.
 use mathlib.Core.Path.{_≡_, refl, sym, ap, subst, _∙_}
 use mathlib.Core.Bool.{Bool, true, false, true≢false, cond, not, _&&_, _||_, and-true}
-use mathlib.Core.List.{List, [], _∷_, _++_, append-nil}
+use mathlib.Core.List.{List, [], _∷_}
 use mathlib.Core.Logic.{_⊎_, inl, inr}
-use Prim.Native.Nat.{ℕ, zero, suc, _%_, _+_, _-_, _*_, _≤_, _<_}
+use Prim.Native.Nat.{ℕ, suc, _%_, _+_, _-_, _≤_, _<_}
 use native.Mathlib.Omega.{arith}
-use borrow.Author.Tests.{ltb-true, ltb-false, eqb-true, eqb-false, ne-eqb, eq-eqb}
-use lib.ListN.{length, take, length-append}
+use borrow.Author.Tests.{ltb-true, ltb-false, ne-eqb, eq-eqb}
+use lib.ListN.{length, length-append}
 use lib.Seq.{take-all}
 use lib.Dec.{eqb, ltb}
 use Rattle.base.specs.Answer.{done, unexpected}
@@ -22,23 +22,23 @@ use Rattle.state.specs.declared.Outcome.{Outcome}
 use Rattle.state.specs.Bounds.{slotsNeed}
 use Rattle.state.specs.State.{lastCorrect, behind, waits, sentBefore}
 use Rattle.state.specs.Gate.{After, refused, gated, gateOf}
-use Rattle.state.specs.Formed.{InRange, Formed, Sound, Open}
+use Rattle.state.specs.Formed.{InRange, Formed, Sound}
 use Rattle.state.proofs.Facts.{wellFormed-facts, gateOf-facts}
 use Rattle.state.proofs.Keeps.{sound-open}
 use Rattle.send.specs.Repeat.{mayRepeat}
-use Rattle.send.specs.Makers.{silent, ends, sends, marked, sendsAck, sendsRepeat, sendsNak}
+use Rattle.send.specs.Makers.{silent, ends, sends, marked, sendsAck, sendsRepeat}
 use Rattle.send.proofs.Facts.{behind-sentBefore}
 use Rattle.receive.specs.Steps.{freed, repeatable, afterDelivery}
 use Rattle.receive.specs.Take.{obeyed, taken, dataTaken}
 use Rattle.clock.specs.Look.{lookedAt, looked}
-use Rattle.pair.specs.System.{Side, System, swap, sentBy, deliveredBy, called, takes, lookOf, looks, IsClock, Moment}
+use Rattle.pair.specs.System.{System, swap, deliveredBy, takes, lookOf, looks, IsClock, Moment}
 use Rattle.pair.specs.Round.{Enough, Carried, head, Carries, none, here, there, runs, dueAt, someRuns, someDue, onward, Passes, stays, first, Looks, nothing, sends-on, Round, round, Rounds, begin, next}
 use Rattle.pair.specs.Demand3.{Through, Alive, Within24}
 use Rattle.pair.proofs.Line.{Line, data-next, ack-next, idle-next, Idle, by-size, by-sum, a-nak, line-taken, line-freed}
-use Rattle.pair.proofs.Invariant.{Way, Inv, inv-swap, window-small}
+use Rattle.pair.proofs.Invariant.{Inv, inv-swap, window-small}
 use Rattle.pair.proofs.Calls.{gated-cases, gated-open}
 use Rattle.pair.proofs.Moves.{take-kept, look-kept, moment-range, moment-kept}
-use Rattle.pair.proofs.Measure.{looked-same, bit, bit-small, spare, weight, spare-bound, freed-fewer, freed-spare, again-weight, Calm, Looked, looked-look}
+use Rattle.pair.proofs.Measure.{looked-same, bit, bit-small, weight, spare-bound, freed-fewer, freed-spare, again-weight, Calm, Looked, looked-look}
 
 -- ---- a frame taken
 
@@ -129,7 +129,7 @@ pub record Falls (s : Settings) (S T : System) : Type 0 where
 falls-none : (s : Settings) (S : System) → Inv s S → Falls s S S
 falls-none s S I = record { inv = I; low = omega arith; fewHere = omega arith; fewThere = omega arith; lostHere = λ h. h; lostThere = λ h. h }
 
-falls-swap : (s : Settings) (S T : System) → Falls s (swap S) (swap T) → Falls s S T
+pub falls-swap : (s : Settings) (S T : System) → Falls s (swap S) (swap T) → Falls s S T
 falls-swap s S T F = record { inv = inv-swap s (swap T) (F .inv); low = omega (arith, F .low); fewHere = F .fewThere; fewThere = F .fewHere; lostHere = F .lostThere; lostThere = F .lostHere }
 
 pub falls-trans : (s : Settings) (S T U : System) → Falls s S T → Falls s T U → Falls s S U
@@ -144,7 +144,7 @@ falls-trans s S T U F G = record {
 
 -- ---- carrying
 
-carried-falls : (s : Settings) (S T : System) (ms : ℕ) → IsClock ms → InRange s → Inv s S → Carried ms S T → Falls s S T
+pub carried-falls : (s : Settings) (S T : System) (ms : ℕ) → IsClock ms → InRange s → Inv s S → Carried ms S T → Falls s S T
 carried-falls s S T ms c r I (head frame received rest enough e) =
     let a : After Outcome = taken (S .here .state) (S .here .slots) frame ms received in
     let J : Inv s (takes S frame ms received rest) = take-kept s S frame received rest ms c r e I in
@@ -170,7 +170,7 @@ carries-falls s S U ms c r I (there S₁ T U₁ k rest) =
 -- ---- looking
 
 -- one look, with a buffer that is long enough
-look-does : (s : Settings) (S : System) (frame : List ℕ) (ms : ℕ) → Inv s S → Enough S frame → Looked (S .here .state) (lookOf S frame ms) (dueAt (S .here .state) ms && not (S .here .state .lost))
+pub look-does : (s : Settings) (S : System) (frame : List ℕ) (ms : ℕ) → Inv s S → Enough S frame → Looked (S .here .state) (lookOf S frame ms) (dueAt (S .here .state) ms && not (S .here .state .lost))
 unfolding looked
 look-does s S frame ms I enough = go (l .lost) refl
   where
@@ -192,7 +192,7 @@ look-does s S frame ms I enough = go (l .lost) refl
         subst (λ y. Looked l y (dueAt l ms && true)) (sym (gated-open g l (S .here .slots) frame (lookedAt l (S .here .slots) frame ms) open-gate))
         (subst (λ o. Looked l (lookedAt l (S .here .slots) frame ms) o) (sym (and-true (dueAt l ms))) (looked-look l (S .here .slots) frame ms (I .here .sound) e))
 
-look-falls : (s : Settings) (S : System) (frame : List ℕ) (ms : ℕ) → IsClock ms → InRange s → Inv s S → Enough S frame → Falls s S (looks S frame ms)
+pub look-falls : (s : Settings) (S : System) (frame : List ℕ) (ms : ℕ) → IsClock ms → InRange s → Inv s S → Enough S frame → Falls s S (looks S frame ms)
 look-falls s S frame ms c r I enough =
     let k = look-does s S frame ms I enough in
     record {
@@ -274,7 +274,7 @@ passes-cases : (S : System) (ms passed : ℕ) → Passes S ms passed → ((passe
 passes-cases S ms passed (stays e) = inl (refl, e)
 passes-cases S ms passed (first passed₁ e k) = inr e
 
-onward-clock : (ms passed : ℕ) → IsClock (onward ms passed)
+pub onward-clock : (ms passed : ℕ) → IsClock (onward ms passed)
 onward-clock ms passed = omega arith
 
 pub round-turns : (s : Settings) (S T : System) (ms passed : ℕ) → IsClock ms → InRange s → Inv s S → Round ms S passed T → Turned s S T passed
@@ -312,13 +312,13 @@ round-turns s S W ms passed c r I (round T U W₁ passed₁ carries noHere noThe
     go alive (inl e) = inl (e .0, empty-falls s T W (falls-trans s T U W (A .falls) G) (none-runs T (e .1)))
     go alive (inr e) = inr (due-either alive (dueAt (T .here .state) (onward ms passed)) refl e)
 
-alive-before : (s : Settings) (S T : System) → Falls s S T → Alive T → Alive S
+pub alive-before : (s : Settings) (S T : System) → Falls s S T → Alive T → Alive S
 alive-before s S T F a = record {
   here = not-lost (S .here .state .lost) (T .here .state .lost) (a .here) (F .lostHere);
   there = not-lost (S .there .state .lost) (T .there .state .lost) (a .there) (F .lostThere);
 }
 
-rounds-fall : (s : Settings) (S T : System) (ms n total : ℕ) → IsClock ms → InRange s → Inv s S → Rounds ms S n total T → Falls s S T
+pub rounds-fall : (s : Settings) (S T : System) (ms n total : ℕ) → IsClock ms → InRange s → Inv s S → Rounds ms S n total T → Falls s S T
 rounds-fall s S T ms n total c r I begin = falls-none s S I
 rounds-fall s S U ms n total c r I (next n₁ total₁ passed T U₁ rounds turn) =
     let F : Falls s S T = rounds-fall s S T ms n₁ total₁ c r I rounds in

@@ -1,14 +1,14 @@
 -- What holds at every moment, and how each small change keeps it. Assumes nothing.
 use mathlib.Core.Path.{_≡_, refl, sym, ap, subst, _∙_}
 use mathlib.Core.Bool.{Bool, true, false, cond}
-use mathlib.Core.List.{List, [], _∷_, _++_, append-nil}
-use Prim.Native.Nat.{ℕ, zero, suc, _%_, _+_, _-_, _*_, _≤_, _<_, max}
+use mathlib.Core.List.{List, [], _∷_, _++_}
+use Prim.Native.Nat.{ℕ, zero, suc, _%_, _+_, _-_, _*_, _≤_, _<_}
 use native.Mathlib.Omega.{arith}
 use borrow.Author.Tests.{ltb-true, ltb-false, eqb-true, eqb-false}
-use lib.ListN.{length, take, drop, getD, set, length-append, List·getD-append}
+use lib.ListN.{length, take, getD, set, length-append, List·getD-append}
 use lib.Seq.{take-suc, take-append-le, getD-set-same, getD-set-other, set-out}
 use lib.Dec.{ltb, eqb}
-use Rattle.frame.specs.declared.Heard.the-variants.{Ack, Data}
+use Rattle.frame.specs.declared.Heard.the-variants.{Data}
 use Rattle.frame.specs.Steps.{heard, packetIn}
 use Rattle.state.specs.declared.Settings.{Settings}
 use Rattle.state.specs.declared.Link.{Link}

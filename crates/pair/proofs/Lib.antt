@@ -5,3 +5,6 @@ pub mod Calls
 pub mod Moves
 pub mod Measure
 pub mod Falls
+pub mod Timers
+pub mod Milliseconds
+pub mod Exist

@@ -1,19 +1,17 @@
 -- What is left to be repeated and acknowledged at one end, and that no call of a quiet continuation raises it. Assumes nothing.
-use mathlib.Core.Path.{_≡_, refl, sym, ap, subst, _∙_}
+use mathlib.Core.Path.{_≡_, refl, sym, ap, subst}
 use mathlib.Core.Bool.{Bool, true, false, true≢false, cond, not, _&&_, _||_}
-use mathlib.Core.List.{List, [], _∷_}
+use mathlib.Core.List.{List, []}
 use Prim.Native.Nat.{ℕ, zero, suc, _%_, _+_, _-_, _*_, _≤_, _<_}
 use native.Mathlib.Omega.{arith}
-use borrow.Author.Tests.{ltb-true, ltb-false, eqb-true, eqb-false, ne-eqb}
+use borrow.Author.Tests.{ltb-true, eqb-true, eqb-false, ne-eqb}
 use lib.ListN.{length, getD, set}
 use lib.Seq.{getD-set-same, getD-set-other}
 use lib.Dec.{eqb, ltb}
 use Rattle.base.specs.Answer.{done}
-use Rattle.base.proofs.Tests.{and-left, and-right}
+use Rattle.base.proofs.Tests.{and-left}
 use Rattle.frame.specs.Bytes.{frameOf, dataFrame}
 use Rattle.frame.proofs.Writing.{frameOf-length}
-use Rattle.frame.specs.declared.Heard.{Heard}
-use Rattle.frame.specs.declared.Heard.the-variants.{Size, Sum, Ack, Nak, Data}
 use Rattle.state.specs.declared.Link.{Link}
 use Rattle.state.specs.declared.Outcome.{Outcome}
 use Rattle.state.specs.State.{lastCorrect, behind, waits, sentBefore, slotOf, countOf, startOf}
@@ -22,8 +20,7 @@ use Rattle.state.specs.Timer.{due}
 use Rattle.state.specs.Formed.{Formed, Sound}
 use Rattle.state.proofs.Facts.{wellFormed-facts, slotOf-lt}
 use Rattle.send.specs.Repeat.{packetOf, again, mayRepeat}
-use Rattle.send.specs.Makers.{silent, ends, quiet, sendsRepeat}
-use Rattle.send.proofs.Facts.{behind-sentBefore}
+use Rattle.send.specs.Makers.{ends, sendsRepeat}
 use Rattle.receive.specs.Steps.{freed}
 use Rattle.clock.specs.Look.{packetDue, acknowledgeDue, afterOldest, exhausted, served, acknowledgedIf, lookedAt}
 use Rattle.pair.specs.Round.{dueAt}

@@ -1,11 +1,11 @@
 -- Every move keeps what holds, so it holds at every moment. Assumes nothing.
 use mathlib.Core.Path.{_≡_, refl, sym, ap, subst, _∙_}
-use mathlib.Core.Bool.{Bool, true, false, cond, _&&_}
-use mathlib.Core.List.{List, [], _∷_, _++_, append-nil}
-use Prim.Native.Nat.{ℕ, suc, _%_, _+_, _-_, _*_, _≤_, _<_, max}
+use mathlib.Core.Bool.{Bool, true, false, cond}
+use mathlib.Core.List.{List, [], _∷_, append-nil}
+use Prim.Native.Nat.{ℕ, suc, _%_, _+_, _*_, _≤_, _<_, max}
 use native.Mathlib.Omega.{arith}
-use borrow.Author.Tests.{ltb-true, eqb-true, eqb-false, ne-eqb}
-use lib.ListN.{length, take, getD}
+use borrow.Author.Tests.{ltb-true, eqb-true, ne-eqb}
+use lib.ListN.{length, getD}
 use lib.Dec.{eqb, ltb}
 use Rattle.base.specs.Answer.{done, shortBuffer, linkLost, unexpected}
 use Rattle.base.specs.Buffer.{put}
@@ -24,7 +24,7 @@ use Rattle.state.specs.Fields.{withLost}
 use Rattle.state.specs.State.{lastCorrect, behind, waits, sentBefore, startOf}
 use Rattle.state.specs.Timer.{due}
 use Rattle.state.specs.Gate.{After, refused, gated, gateOf}
-use Rattle.state.specs.Formed.{InRange, Formed, Sound, Open}
+use Rattle.state.specs.Formed.{InRange, Formed, Open}
 use Rattle.state.proofs.Facts.{inRange-facts, wellFormed-facts, gateOf-facts}
 use Rattle.state.proofs.Keeps.{marked-sound}
 use Rattle.send.specs.Repeat.{partOf, dataSent, mayRepeat}
@@ -35,10 +35,10 @@ use Rattle.send.proofs.Keeps.{dataSent-sound, queued-sound}
 use Rattle.clock.specs.Look.{packetDue, acknowledgeDue, afterOldest, exhausted, served, acknowledgedIf, lookedAt, looked, acknowledgedNow}
 use Rattle.receive.specs.Steps.{freed, repeatable, afterDelivery}
 use Rattle.receive.specs.Take.{obeyed, taken, dataTaken}
-use Rattle.pair.specs.System.{Side, System, swap, sentBy, takenBy, deliveredBy, leftBy, called, submits, takes, looks, acknowledges, Harm, IsClock, Move, submit, take-head, look, acknowledge, harm, Moment, start, here, there}
+use Rattle.pair.specs.System.{System, swap, sentBy, takenBy, deliveredBy, leftBy, called, submits, takes, looks, acknowledges, Harm, IsClock, Move, submit, take-head, look, acknowledge, harm, Moment, start, here, there}
 use Rattle.pair.specs.Demand3.{FirstSoMany}
 use Rattle.pair.proofs.Line.{Line, data-next, ack-next, idle-next, Idle, by-size, by-sum, a-nak, line-taken, line-freed, line-mono}
-use Rattle.pair.proofs.Invariant.{Way, Inv, inv-swap, turned, restated, delivering, adding, inv-turned, inv-passed, inv-freed, inv-delivered, inv-added, inv-harm, inv-start, inv-first, window-small}
+use Rattle.pair.proofs.Invariant.{Inv, inv-swap, restated, delivering, adding, inv-turned, inv-passed, inv-freed, inv-delivered, inv-added, inv-harm, inv-start, inv-first, window-small}
 use Rattle.pair.proofs.Calls.{sent-frame, last-said, gated-cases, Before, ends-silent, ends-ack, ends-nothing, ends-nak, ends-repeat}
 
 -- ---- take

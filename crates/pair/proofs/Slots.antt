@@ -1,12 +1,12 @@
 -- The packets in the slots when submit adds one. Assumes nothing.
-use mathlib.Core.Path.{_≡_, refl, sym, ap, subst, _∙_}
+use mathlib.Core.Path.{_≡_, refl, ap, _∙_}
 use mathlib.Core.Bool.{Bool, true, false}
 use mathlib.Core.List.{List}
-use Prim.Native.Nat.{ℕ, _%_, _+_, _-_, _*_, _≤_, _<_}
+use Prim.Native.Nat.{ℕ, _%_, _*_, _≤_, _<_}
 use native.Mathlib.Nat.{zero-mul, one-mul}
 use native.Mathlib.Omega.{arith}
 use borrow.Author.Tests.{eqb-true, eqb-false}
-use lib.ListN.{length, take, drop, getD, set}
+use lib.ListN.{length, take, drop}
 use lib.Seq.{getD-set-same, getD-set-other}
 use lib.Dec.{eqb}
 use Rattle.base.specs.Buffer.{put}

@@ -1,0 +1,330 @@
+-- Rounds can always be played. Assumes nothing.
+use mathlib.Core.Path.{_≡_, refl, sym, ap, subst}
+use mathlib.Core.Bool.{Bool, true, false, cond, not, _&&_}
+use mathlib.Core.List.{List, [], _∷_, _++_}
+use Prim.Native.Nat.{ℕ, zero, suc, _%_, _+_, _*_, _≤_, _<_}
+use native.Mathlib.Omega.{arith}
+use borrow.Author.Tests.{ltb-true, eqb-true, eqb-false, le-ltb}
+use lib.ListN.{length}
+use lib.Dec.{eqb}
+use Rattle.base.specs.Answer.{done, linkLost, unexpected, shortBuffer}
+use Rattle.base.proofs.Tests.{and-left}
+use Rattle.frame.specs.declared.Heard.{Heard}
+use Rattle.frame.specs.declared.Heard.the-variants.{Size, Sum, Code, ControlSize, Length, Reset, Ack, Nak, Data}
+use Rattle.frame.specs.Bytes.{dataFrame, ackFrame, nakFrame}
+use Rattle.frame.specs.Steps.{heard, acknowledgedIn}
+use Rattle.frame.proofs.Writing.{frameOf-length}
+use Rattle.frame.proofs.Hearing.{ack-heard, nak-heard, number-heard}
+use Rattle.state.specs.declared.Settings.{Settings}
+use Rattle.state.specs.declared.Link.{Link}
+use Rattle.state.specs.declared.Outcome.{Outcome}
+use Rattle.state.specs.Bounds.{slotsNeed, frameNeed}
+use Rattle.state.specs.State.{lastCorrect, behind, waits, sentBefore, lengthOf}
+use Rattle.state.specs.Gate.{After, gated, entryOf, gateOf}
+use Rattle.state.specs.Formed.{InRange, Formed, Sound}
+use Rattle.state.proofs.Facts.{wellFormed-facts}
+use Rattle.send.specs.Repeat.{packetOf, mayRepeat}
+use Rattle.send.specs.Makers.{silent, ends, sends, quiet, marked, sendsAck, sendsRepeat, sendsNak}
+use Rattle.send.proofs.Facts.{behind-sentBefore}
+use Rattle.receive.specs.Steps.{freed, repeatable, afterDelivery}
+use Rattle.receive.specs.Take.{obeyed, taken, dataTaken}
+use Rattle.pair.specs.System.{System, swap, sentBy, leftBy, takes, lookOf, looks, IsClock}
+use Rattle.pair.specs.Round.{Enough, dueAt, Carried, head, Carries, none, here, there, onward, Looks, nothing, sends-on, Round, round, Rounds, begin, next}
+use Rattle.pair.specs.Demand3.{RoundsExist}
+use Rattle.pair.proofs.Line.{Line, data-next, ack-next, idle-next, Idle, by-size, by-sum, a-nak}
+use Rattle.pair.proofs.Invariant.{Inv, inv-swap}
+use Rattle.pair.proofs.Calls.{sent-frame, waiting-length, repeat-heard}
+use Rattle.pair.proofs.Moves.{moment-range, moment-kept}
+use Rattle.pair.proofs.Measure.{bit, weight, Looked}
+use Rattle.pair.proofs.Timers.{Moved, moved}
+use Rattle.pair.proofs.Falls.{carried-falls, look-does, look-falls, onward-clock}
+
+-- ---- what a frame costs: it is answered by a cheaper one, if at all
+
+abbrev cost : Heard → ℕ
+cost (Ack k) = 1
+cost (Data number nak k len) = 2
+cost (Nak k) = 3
+cost Size = 4
+cost Sum = 4
+cost Code = 4
+cost ControlSize = 4
+cost Length = 4
+cost Reset = 4
+
+cost-some : (h : Heard) → 1 ≤ cost h
+cost-some (Ack k) = omega arith
+cost-some (Data number nak k len) = omega arith
+cost-some (Nak k) = omega arith
+cost-some Size = omega arith
+cost-some Sum = omega arith
+cost-some Code = omega arith
+cost-some ControlSize = omega arith
+cost-some Length = omega arith
+cost-some Reset = omega arith
+
+abbrev load : ℕ → List (List ℕ) → ℕ
+load d [] = 0
+load d (x ∷ q) = cost (heard d x) + load d q
+
+load-append : (d : ℕ) (p q : List (List ℕ)) → load d (p ++ q) ≡ load d p + load d q
+load-append d [] q = omega arith
+load-append d (x ∷ p) q = omega (arith, load-append d p q)
+
+-- a take that used its frame up, and answered with less
+record Used (d : ℕ) (h : Heard) (a : After Outcome) : Type 0 where
+  less : load d (sentBy a) + 1 ≤ cost h
+  gone : eqb (a .told .answer) shortBuffer ≡ false
+
+used-nothing : (d : ℕ) (h : Heard) (l : Link) (slots frame : List ℕ) (answer delivered : ℕ) → eqb answer shortBuffer ≡ false → Used d h (ends (silent l frame) answer delivered slots)
+used-nothing d h l slots frame answer delivered e = record { less = omega (arith, cost-some h); gone = e }
+
+used-sent : (d : ℕ) (h reply : Heard) (l : Link) (bytes slots frame : List ℕ) (answer delivered : ℕ) → eqb answer shortBuffer ≡ false → 1 ≤ length bytes → length bytes ≤ length frame
+    → heard d bytes ≡ reply → cost reply + 1 ≤ cost h → Used d h (ends (sends l bytes frame) answer delivered slots)
+used-sent d h reply l bytes slots frame answer delivered e lo hi m c =
+    record { less = rw (sent-frame l bytes frame slots answer delivered lo hi, m) (omega arith); gone = e }
+
+-- ---- each kind of frame
+
+used-nak : (s : Settings) (h : Heard) (l : Link) (slots frame : List ℕ) (answer : ℕ) → InRange s → s .d ≤ length frame → cost h ≡ 4 → eqb answer shortBuffer ≡ false
+    → Used (s .d) h (ends (sendsNak l frame) answer 0 slots)
+used-nak s h l slots frame answer r room four e = go (l .naked)
+  where
+    k : ℕ
+    k = (lastCorrect l + 1) % 4
+
+    small : k ≤ 3
+    small = omega arith
+
+    size : length (nakFrame k) ≡ 5
+    size = frameOf-length (0xA0 + k) []
+
+    go : (t : Bool) → Used (s .d) h (ends (cond t (silent l frame) (sends (marked l) (nakFrame k) frame)) answer 0 slots)
+    go true = used-nothing (s .d) h l slots frame answer 0 e
+    go false = used-sent (s .d) h (Nak k) (marked l) (nakFrame k) slots frame answer 0 e (omega (arith, size)) (omega (arith, size, r .d-lo)) (nak-heard (s .d) k (omega (arith, small)) (omega (arith, r .d-lo))) (omega (arith, four))
+
+used-idle : (s : Settings) (S : System) (frame : List ℕ) (ms : ℕ) (h : Heard) → InRange s → Inv s S → s .d ≤ length frame → acknowledgedIn h ≤ 3 → Idle h
+    → Used (s .d) h (obeyed (S .here .state) (S .here .slots) frame ms h)
+unfolding obeyed
+used-idle s S frame ms Size r I room small by-size = used-nak s Size (S .here .state) (S .here .slots) frame 6 r room refl refl
+used-idle s S frame ms Sum r I room small by-sum = used-nak s Sum (S .here .state) (S .here .slots) frame 6 r room refl refl
+used-idle s S frame ms (Nak k) r I room small (a-nak k₁) = go (repeatable l k) refl
+  where
+    l : Link
+    l = S .here .state
+
+    go : (t : Bool) → repeatable l k ≡ t → Used (s .d) (Nak k) (ends (cond t (sendsRepeat l (S .here .slots) frame ms k) (silent l frame)) done 0 (S .here .slots))
+    go true e =
+        let formed : Formed l = wellFormed-facts l (I .here .sound .formed) in
+        let same : sentBefore l (behind l k) ≡ k = behind-sentBefore l k (formed .next) small in
+        let wait : behind l k < l .waiting = ltb-true (behind l k) (l .waiting) (and-left (waits l k) (mayRepeat l k) e) in
+        let k₂ : ℕ = sentBefore l (behind l k) in
+        let packet : List ℕ = packetOf l (S .here .slots) k₂ in
+        let bytes : List ℕ = dataFrame k₂ (lastCorrect l) packet in
+        let m : heard (s .d) bytes ≡ Data k₂ false (lastCorrect l) (length packet) = repeat-heard s (S .here) (S .there .takenIn) (I .freedHere) (I .gotHere) (behind l k) r (I .here) wait in
+        let size : length bytes ≡ length packet + 5 = frameOf-length (k₂ * 4 + lastCorrect l) packet in
+        let d : l .settings .d ≡ s .d = ap (λ (x : Settings). x .d) (I .here .settings) in
+        let len : length packet ≡ lengthOf l k₂ = waiting-length s (S .here) (S .there .takenIn) (I .freedHere) (I .gotHere) (behind l k) (I .here) wait in
+        let fits : length bytes ≤ s .d = omega (arith, formed .lengths (behind l k) wait .most, r .d-lo) in
+        subst (λ n. Used (s .d) (Nak k) (ends (sendsRepeat l (S .here .slots) frame ms n) done 0 (S .here .slots))) same
+        (used-sent (s .d) (Nak k) (Data k₂ false (lastCorrect l) (length packet)) _ bytes (S .here .slots) frame done 0 refl (omega arith) (omega arith) m (omega arith))
+    go false e = used-nothing (s .d) (Nak k) l (S .here .slots) frame done 0 refl
+
+used-data : (s : Settings) (l : Link) (slots frame : List ℕ) (ms number k len : ℕ) → InRange s → s .d ≤ length frame
+    → Used (s .d) (Data number false k len) (obeyed l slots frame ms (Data number false k len))
+unfolding obeyed dataTaken
+used-data s l slots frame ms number k len r room = go (eqb number (l .expected))
+  where
+    six : Link
+    six = freed l k
+
+    size : length (ackFrame (lastCorrect six)) ≡ 5
+    size = frameOf-length (0x80 + lastCorrect six) []
+
+    go : (t : Bool) → Used (s .d) (Data number false k len) (cond t (ends (silent (afterDelivery (freed l k) ms) frame) done len slots) (ends (sendsAck (freed l k) frame) unexpected 0 slots))
+    go true = used-nothing (s .d) (Data number false k len) (afterDelivery (freed l k) ms) slots frame done len refl
+    go false = used-sent (s .d) (Data number false k len) (Ack (lastCorrect six)) (quiet six) (ackFrame (lastCorrect six)) slots frame unexpected 0 refl (omega (arith, size)) (omega (arith, size, r .d-lo))
+        (ack-heard (s .d) (lastCorrect six) (omega arith) (omega (arith, r .d-lo))) (omega arith)
+
+used-ack : (s : Settings) (l : Link) (slots frame : List ℕ) (ms k : ℕ) → Used (s .d) (Ack k) (obeyed l slots frame ms (Ack k))
+unfolding obeyed
+used-ack s l slots frame ms k = used-nothing (s .d) (Ack k) (freed l k) slots frame done 0 refl
+
+used-head : (s : Settings) (S : System) (frame received : List ℕ) (rest : List (List ℕ)) (ms : ℕ) (t : List (List ℕ)) (h b e : ℕ) → InRange s → Inv s S → s .d ≤ length frame
+    → Line (s .d) t h b e (received ∷ rest) → Used (s .d) (heard (s .d) received) (obeyed (S .here .state) (S .here .slots) frame ms (heard (s .d) received))
+used-head s S frame received rest ms t h b e r I room (data-next f x len m p lo u v w) =
+    subst (λ y. Used (s .d) y (obeyed (S .here .state) (S .here .slots) frame ms y)) (sym m) (used-data s (S .here .state) (S .here .slots) frame ms (f % 4) ((x + 3) % 4) len r room)
+used-head s S frame received rest ms t h b e r I room (ack-next x m v w) =
+    subst (λ y. Used (s .d) y (obeyed (S .here .state) (S .here .slots) frame ms y)) (sym m) (used-ack s (S .here .state) (S .here .slots) frame ms ((x + 3) % 4))
+used-head s S frame received rest ms t h b e r I room (idle-next m w) = used-idle s S frame ms (heard (s .d) received) r I room (number-heard (s .d) received) m
+
+-- ---- the gate, with buffers that are long enough
+
+sound-gate : (l : Link) (slots frame : ℕ) → Sound l → slotsNeed (l .settings) ≤ slots → frameNeed (l .settings) ≤ frame → gateOf l slots frame ≡ cond (l .lost) linkLost done
+unfolding gateOf entryOf
+sound-gate l slots frame s h k = rw (s .formed, le-ltb slots (slotsNeed (l .settings)) h, le-ltb frame (frameNeed (l .settings)) k)
+
+used-take : (s : Settings) (S : System) (frame received : List ℕ) (rest : List (List ℕ)) (ms : ℕ) → InRange s → Inv s S → Enough S frame → S .here .queue ≡ received ∷ rest
+    → Used (s .d) (heard (s .d) received) (taken (S .here .state) (S .here .slots) frame ms received)
+unfolding taken
+used-take s S frame received rest ms r I enough e =
+    subst (λ g. Used (s .d) (heard (s .d) received) (gated g l (S .here .slots) frame (obeyed l (S .here .slots) frame ms (heard (l .settings .d) received)))) (sym gate) (go (l .lost))
+  where
+    l : Link
+    l = S .here .state
+
+    d : l .settings .d ≡ s .d
+    d = ap (λ (x : Settings). x .d) (I .here .settings)
+
+    slots-room : slotsNeed (l .settings) ≤ length (S .here .slots)
+    slots-room = rw (I .here .settings) (I .here .room)
+
+    gate : gateOf l (length (S .here .slots)) (length frame) ≡ cond (l .lost) linkLost done
+    gate = sound-gate l (length (S .here .slots)) (length frame) (I .here .sound) slots-room enough
+
+    room : s .d ≤ length frame
+    room = subst (λ n. n ≤ length frame) d enough
+
+    go : (t : Bool) → Used (s .d) (heard (s .d) received) (gated (cond t linkLost done) l (S .here .slots) frame (obeyed l (S .here .slots) frame ms (heard (l .settings .d) received)))
+    go true = used-nothing (s .d) (heard (s .d) received) l (S .here .slots) frame linkLost 0 refl
+    go false = subst (λ n. Used (s .d) (heard (s .d) received) (obeyed l (S .here .slots) frame ms (heard n received))) (sym d)
+        (used-head s S frame received rest ms (S .there .takenIn) (I .gotHere) (I .freedHere) (I .gotThere) r I room (subst (λ z. Line (s .d) (S .there .takenIn) (I .gotHere) (I .freedHere) (I .gotThere) z) e (I .toHere)))
+
+-- ---- carrying ends
+
+-- a frame buffer that is long enough
+blank : ℕ → List ℕ
+blank zero = []
+blank (suc n) = 0 ∷ blank n
+
+blank-length : (n : ℕ) → length (blank n) ≡ n
+unfolding blank
+blank-length zero = refl
+blank-length (suc n) = ap suc (blank-length n)
+
+enough : (S : System) → Enough S (blank (frameNeed (S .here .state .settings)))
+enough S = omega (arith, blank-length (frameNeed (S .here .state .settings)))
+
+record Emptied (s : Settings) (ms : ℕ) (S : System) : Type 0 where
+  end : System
+  carries : Carries ms S end
+  inv : Inv s end
+  noHere : end .here .queue ≡ []
+  noThere : end .there .queue ≡ []
+
+-- the frame at the head is taken, and the load falls
+record Stepped (s : Settings) (ms : ℕ) (S : System) : Type 0 where
+  end : System
+  carried : Carried ms S end
+  inv : Inv s end
+  less : load (s .d) (end .here .queue) + load (s .d) (end .there .queue) + 1 ≤ load (s .d) (S .here .queue) + load (s .d) (S .there .queue)
+
+stepped : (s : Settings) (S : System) (ms : ℕ) (received : List ℕ) (rest : List (List ℕ)) → IsClock ms → InRange s → Inv s S → S .here .queue ≡ received ∷ rest → Stepped s ms S
+stepped s S ms received rest c r I e =
+    let frame : List ℕ = blank (frameNeed (S .here .state .settings)) in
+    let a : After Outcome = taken (S .here .state) (S .here .slots) frame ms received in
+    let k : Carried ms S (takes S frame ms received rest) = head frame received rest (enough S) e in
+    let u : Used (s .d) (heard (s .d) received) a = used-take s S frame received rest ms r I (enough S) e in
+    let left : leftBy a received rest ≡ rest = rw (u .gone) in
+    record {
+      end = takes S frame ms received rest;
+      carried = k;
+      inv = carried-falls s S (takes S frame ms received rest) ms c r I k .inv;
+      less = omega (arith, u .less, ap (load (s .d)) left, ap (load (s .d)) e, load-append (s .d) (S .there .queue) (sentBy a));
+    }
+
+emptied : (s : Settings) (n ms : ℕ) (S : System) → IsClock ms → InRange s → Inv s S → load (s .d) (S .here .queue) + load (s .d) (S .there .queue) ≤ n → Emptied s ms S
+emptied s zero ms S c r I h = go (S .here .queue) (S .there .queue) refl refl
+  where
+    go : (p q : List (List ℕ)) → S .here .queue ≡ p → S .there .queue ≡ q → Emptied s ms S
+    go [] [] ep eq = record { end = S; carries = none S; inv = I; noHere = ep; noThere = eq }
+    go [] (x ∷ q) ep eq = absurd (omega (arith, ap (load (s .d)) eq, cost-some (heard (s .d) x)))
+    go (x ∷ p) q ep eq = absurd (omega (arith, ap (load (s .d)) ep, cost-some (heard (s .d) x)))
+emptied s (suc n) ms S c r I h = go (λ T J less. emptied s n ms T c r J less) (S .here .queue) (S .there .queue) refl refl
+  where
+    go : ((T : System) → Inv s T → load (s .d) (T .here .queue) + load (s .d) (T .there .queue) ≤ n → Emptied s ms T) → (p q : List (List ℕ)) → S .here .queue ≡ p → S .there .queue ≡ q → Emptied s ms S
+    go more [] [] ep eq = record { end = S; carries = none S; inv = I; noHere = ep; noThere = eq }
+    go more (x ∷ p) q ep eq =
+        let k : Stepped s ms S = stepped s S ms x p c r I ep in
+        let m : Emptied s ms (k .end) = more (k .end) (k .inv) (omega (arith, k .less)) in
+        record { end = m .end; carries = here S (k .end) (m .end) (k .carried) (m .carries); inv = m .inv; noHere = m .noHere; noThere = m .noThere }
+    go more [] (x ∷ q) ep eq =
+        let k : Stepped s ms (swap S) = stepped s (swap S) ms x q c r (inv-swap s S I) eq in
+        let m : Emptied s ms (swap (k .end)) = more (swap (k .end)) (inv-swap s (k .end) (k .inv)) (omega (arith, k .less)) in
+        record { end = m .end; carries = there S (swap (k .end)) (m .end) (k .carried) (m .carries); inv = m .inv; noHere = m .noHere; noThere = m .noThere }
+
+-- ---- looking ends
+
+record Watched (s : Settings) (ms : ℕ) (S : System) : Type 0 where
+  end : System
+  looks-so : Looks ms S end
+  inv : Inv s end
+
+watched : (s : Settings) (n ms : ℕ) (S : System) → IsClock ms → InRange s → Inv s S → weight (S .here .state) ≤ n → Watched s ms S
+watched s zero ms S c r I h = go (eqb (lookOf S frame ms .told .sent) 0) refl
+  where
+    frame : List ℕ
+    frame = blank (frameNeed (S .here .state .settings))
+
+    k : Looked (S .here .state) (lookOf S frame ms) (dueAt (S .here .state) ms && not (S .here .state .lost))
+    k = look-does s S frame ms I (enough S)
+
+    go : (t : Bool) → eqb (lookOf S frame ms .told .sent) 0 ≡ t → Watched s ms S
+    go true e = record { end = looks S frame ms; looks-so = nothing S frame (enough S) (eqb-true (lookOf S frame ms .told .sent) 0 e); inv = look-falls s S frame ms c r I (enough S) .inv }
+    go false e = absurd (omega (arith, k .low, ap (λ (t : Bool). bit (not t)) e))
+watched s (suc n) ms S c r I h = go (λ J less. watched s n ms (looks S frame ms) c r J less) (eqb (lookOf S frame ms .told .sent) 0) refl
+  where
+    frame : List ℕ
+    frame = blank (frameNeed (S .here .state .settings))
+
+    k : Looked (S .here .state) (lookOf S frame ms) (dueAt (S .here .state) ms && not (S .here .state .lost))
+    k = look-does s S frame ms I (enough S)
+
+    J : Inv s (looks S frame ms)
+    J = look-falls s S frame ms c r I (enough S) .inv
+
+    go : (Inv s (looks S frame ms) → weight (lookOf S frame ms .told .state) ≤ n → Watched s ms (looks S frame ms)) → (t : Bool) → eqb (lookOf S frame ms .told .sent) 0 ≡ t → Watched s ms S
+    go more true e = record { end = looks S frame ms; looks-so = nothing S frame (enough S) (eqb-true (lookOf S frame ms .told .sent) 0 e); inv = J }
+    go more false e =
+        let m : Watched s ms (looks S frame ms) = more J (omega (arith, k .low, ap (λ (t : Bool). bit (not t)) e)) in
+        record { end = m .end; looks-so = sends-on S (m .end) frame (enough S) (eqb-false (lookOf S frame ms .told .sent) 0 e) (m .looks-so); inv = m .inv }
+
+-- ---- rounds
+
+record ARound (s : Settings) (ms : ℕ) (S : System) : Type 0 where
+  end : System
+  passed : ℕ
+  turn : Round ms S passed end
+  inv : Inv s end
+
+a-round : (s : Settings) (S : System) (ms : ℕ) → IsClock ms → InRange s → Inv s S → ARound s ms S
+a-round s S ms c r I =
+    let k : Emptied s ms S = emptied s (load (s .d) (S .here .queue) + load (s .d) (S .there .queue)) ms S c r I (omega arith) in
+    let t : Moved (k .end) ms = moved s (k .end) ms r (k .inv) c in
+    let now : ℕ = onward ms (t .passed) in
+    let a : Watched s now (k .end) = watched s (weight (k .end .here .state)) now (k .end) (onward-clock ms (t .passed)) r (k .inv) (omega arith) in
+    let b : Watched s now (swap (a .end)) = watched s (weight (a .end .there .state)) now (swap (a .end)) (onward-clock ms (t .passed)) r (inv-swap s (a .end) (a .inv)) (omega arith) in
+    record {
+      end = swap (b .end);
+      passed = t .passed;
+      turn = round (k .end) (a .end) (swap (b .end)) (t .passed) (k .carries) (k .noHere) (k .noThere) (t .passes) (a .looks-so) (b .looks-so);
+      inv = inv-swap s (b .end) (b .inv);
+    }
+
+record Led (s : Settings) (ms : ℕ) (S : System) (n : ℕ) : Type 0 where
+  end : System
+  total : ℕ
+  rounds : Rounds ms S n total end
+  inv : Inv s end
+
+led : (s : Settings) (S : System) (ms n : ℕ) → IsClock ms → InRange s → Inv s S → Led s ms S n
+led s S ms zero c r I = record { end = S; total = 0; rounds = begin; inv = I }
+led s S ms (suc n) c r I =
+    let k : Led s ms S n = led s S ms n c r I in
+    let a : ARound s (onward ms (k .total)) (k .end) = a-round s (k .end) (onward ms (k .total)) (onward-clock ms (k .total)) r (k .inv) in
+    record { end = a .end; total = k .total + a .passed; rounds = next n (k .total) (a .passed) (k .end) (a .end) (k .rounds) (a .turn); inv = a .inv }
+
+pub rounds-exist : RoundsExist
+rounds-exist s S ms n m c =
+    let k : Led s ms S n = led s S ms n c (moment-range s S m) (moment-kept s S m) in
+    record { end = k .end; total = k .total; rounds = k .rounds }

@@ -1,0 +1,126 @@
+-- The first moment at which a timer is due. Assumes nothing.
+use mathlib.Core.Path.{_≡_, refl, sym, ap, subst}
+use mathlib.Core.Bool.{Bool, true, false, true≢false, _&&_, _||_}
+use Prim.Native.Nat.{ℕ, zero, suc, _+_, _≤_, _<_}
+use native.Mathlib.Omega.{arith}
+use borrow.Author.Tests.{eqb-true, eqb-false, eq-eqb}
+use lib.Dec.{eqb, ltb}
+use Rattle.state.specs.declared.Settings.{Settings}
+use Rattle.state.specs.declared.Link.{Link}
+use Rattle.state.specs.State.{sentBefore, startOf}
+use Rattle.state.specs.Timer.{left, due}
+use Rattle.state.specs.Formed.{InRange}
+use Rattle.clock.specs.Look.{packetDue, acknowledgeDue}
+use Rattle.pair.specs.System.{System, IsClock}
+use Rattle.pair.specs.Round.{runs, dueAt, someRuns, someDue, onward, Passes, stays, first}
+use Rattle.pair.proofs.Invariant.{Timed, Inv}
+
+-- when as many milliseconds have passed as were left, the timer is due, wherever the clock wraps
+pub left-due : (timeout start ms : ℕ) → timeout ≤ 1000 → IsClock start → IsClock ms → due timeout start (onward ms (left timeout start ms)) ≡ true
+left-due timeout start ms h s c = eq-eqb (left timeout start (onward ms (left timeout start ms))) 0 (omega arith)
+
+-- ---- the least number at which a test holds
+
+pub record Least (test : ℕ → Bool) (bound : ℕ) : Type 0 where
+  pub at : ℕ
+  pub within : at ≤ bound
+  pub holds : test at ≡ true
+  pub before : (k : ℕ) → k < at → test k ≡ false
+
+-- from k on, where it fails before k
+search-from : (test : ℕ → Bool) (fuel k bound : ℕ) → k + fuel ≡ bound → test bound ≡ true → ((i : ℕ) → i < k → test i ≡ false) → Least test bound
+search-from test zero k bound e h none = record { at = bound; within = omega arith; holds = h; before = λ i lt. none i (omega arith) }
+search-from test (suc fuel) k bound e h none = go (λ f. search-from test fuel (suc k) bound (omega arith) h f) (test k) refl
+  where
+    go : (((i : ℕ) → i < suc k → test i ≡ false) → Least test bound) → (t : Bool) → test k ≡ t → Least test bound
+    go more true q = record { at = k; within = omega arith; holds = q; before = none }
+    go more false q = more (λ i lt. inner i lt (eqb i k) refl)
+      where
+        inner : (i : ℕ) → i < suc k → (t : Bool) → eqb i k ≡ t → test i ≡ false
+        inner i lt true e₁ = subst (λ n. test n ≡ false) (sym (eqb-true i k e₁)) q
+        inner i lt false e₁ = none i (omega (arith, eqb-false i k e₁))
+
+pub least : (test : ℕ → Bool) (bound : ℕ) → test bound ≡ true → Least test bound
+least test bound h = search-from test bound 0 bound (omega arith) h (λ i lt. absurd (omega arith))
+
+-- ---- an end's timers
+
+or-1 : (a b c : Bool) → a ≡ true → (a || b || c) ≡ true
+or-1 true b c e = refl
+or-1 false b c e = absurd (true≢false (sym e))
+
+or-3 : (a b c : Bool) → c ≡ true → (a || b || c) ≡ true
+or-3 true b c e = refl
+or-3 false true c e = refl
+or-3 false false c e = e
+
+and-intro : (a b : Bool) → a ≡ true → b ≡ true → (a && b) ≡ true
+and-intro true b p q = q
+and-intro false b p q = absurd (true≢false (sym p))
+
+-- where a timer of the end runs, one is due after at most TRANS_TIMEOUT
+pub record Soon (test : ℕ → Bool) (most : ℕ) : Type 0 where
+  pub after : ℕ
+  pub within : after ≤ most
+  pub holds : test after ≡ true
+
+pub end-soon : (s : Settings) (l : Link) (ms : ℕ) → InRange s → l .settings ≡ s → Timed l → IsClock ms → runs l ≡ true → Soon (λ k. dueAt l (onward ms k)) (s .transmit)
+end-soon s l ms r e t c q = go (ltb 0 (l .waiting)) refl q
+  where
+    transmit : l .settings .transmit ≡ s .transmit
+    transmit = ap (λ (x : Settings). x .transmit) e
+
+    acknowledge : l .settings .acknowledge ≡ s .acknowledge
+    acknowledge = ap (λ (x : Settings). x .acknowledge) e
+
+    go : (y : Bool) → ltb 0 (l .waiting) ≡ y → (y || l .acking) ≡ true → Soon (λ k. dueAt l (onward ms k)) (s .transmit)
+    go true w z = record {
+      after = left (l .settings .transmit) (startOf l (sentBefore l 0)) ms;
+      within = omega (arith, transmit);
+      holds = or-1 (packetDue l 0 (onward ms (left (l .settings .transmit) (startOf l (sentBefore l 0)) ms))) (packetDue l 1 (onward ms (left (l .settings .transmit) (startOf l (sentBefore l 0)) ms))) (acknowledgeDue l (onward ms (left (l .settings .transmit) (startOf l (sentBefore l 0)) ms)))
+          (and-intro (ltb 0 (l .waiting)) (due (l .settings .transmit) (startOf l (sentBefore l 0)) (onward ms (left (l .settings .transmit) (startOf l (sentBefore l 0)) ms))) w
+          (left-due (l .settings .transmit) (startOf l (sentBefore l 0)) ms (omega (arith, transmit, r .transmit-hi)) (t .0 _) c));
+    }
+    go false w z = record {
+      after = left (l .settings .acknowledge) (l .ackstart) ms;
+      within = omega (arith, acknowledge, r .acknowledge-hi);
+      holds = or-3 (packetDue l 0 (onward ms (left (l .settings .acknowledge) (l .ackstart) ms))) (packetDue l 1 (onward ms (left (l .settings .acknowledge) (l .ackstart) ms))) (acknowledgeDue l (onward ms (left (l .settings .acknowledge) (l .ackstart) ms)))
+          (and-intro (l .acking) (due (l .settings .acknowledge) (l .ackstart) (onward ms (left (l .settings .acknowledge) (l .ackstart) ms))) z
+          (left-due (l .settings .acknowledge) (l .ackstart) ms (omega (arith, acknowledge, r .acknowledge-hi, r .transmit-hi)) (t .1) c));
+    }
+
+-- ---- both ends
+
+or-left : (a b : Bool) → a ≡ true → (a || b) ≡ true
+or-left true b e = refl
+or-left false b e = absurd (true≢false (sym e))
+
+or-second : (a b : Bool) → b ≡ true → (a || b) ≡ true
+or-second true b e = refl
+or-second false b e = e
+
+pub some-soon : (s : Settings) (S : System) (ms : ℕ) → InRange s → Inv s S → IsClock ms → someRuns S ≡ true → Soon (λ k. someDue S (onward ms k)) (s .transmit)
+some-soon s S ms r I c q = go (runs (S .here .state)) refl q
+  where
+    go : (y : Bool) → runs (S .here .state) ≡ y → (y || runs (S .there .state)) ≡ true → Soon (λ k. someDue S (onward ms k)) (s .transmit)
+    go true e z =
+        let k : Soon (λ k. dueAt (S .here .state) (onward ms k)) (s .transmit) = end-soon s (S .here .state) ms r (I .here .settings) (I .here .timed) c e in
+        record { after = k .after; within = k .within; holds = or-left (dueAt (S .here .state) (onward ms (k .after))) (dueAt (S .there .state) (onward ms (k .after))) (k .holds) }
+    go false e z =
+        let k : Soon (λ k. dueAt (S .there .state) (onward ms k)) (s .transmit) = end-soon s (S .there .state) ms r (I .there .settings) (I .there .timed) c z in
+        record { after = k .after; within = k .within; holds = or-second (dueAt (S .here .state) (onward ms (k .after))) (dueAt (S .there .state) (onward ms (k .after))) (k .holds) }
+
+-- how far the clock is to be moved
+pub record Moved (S : System) (ms : ℕ) : Type 0 where
+  pub passed : ℕ
+  pub passes : Passes S ms passed
+
+pub moved : (s : Settings) (S : System) (ms : ℕ) → InRange s → Inv s S → IsClock ms → Moved S ms
+moved s S ms r I c = go (someRuns S) refl
+  where
+    go : (y : Bool) → someRuns S ≡ y → Moved S ms
+    go true e =
+        let k : Soon (λ k. someDue S (onward ms k)) (s .transmit) = some-soon s S ms r I c e in
+        let m : Least (λ k. someDue S (onward ms k)) (k .after) = least (λ k. someDue S (onward ms k)) (k .after) (k .holds) in
+        record { passed = m .at; passes = first (m .at) (m .holds) (m .before) }
+    go false e = record { passed = 0; passes = stays e }
