@@ -28,8 +28,10 @@ use Rattle.send.specs.Makers.{silent, ends, sends, quiet, marked, sendsAck, sen
 use Rattle.send.proofs.Facts.{behind-sentBefore}
 use Rattle.receive.specs.Steps.{freed, repeatable, afterDelivery}
 use Rattle.receive.specs.Take.{obeyed, taken, dataTaken}
+use Rattle.receive.proofs.Facts.{data-taken}
 use Rattle.pair.specs.System.{System, swap, sentBy, leftBy, takes, lookOf, looks, IsClock}
-use Rattle.pair.specs.Round.{Enough, dueAt, Carried, head, Carries, none, here, there, onward, Looks, nothing, sends-on, Round, round, Rounds, begin, next}
+use Rattle.state.specs.Timer.{onward}
+use Rattle.pair.specs.Round.{Enough, dueAt, Carried, head, Carries, none, here, there, Looks, nothing, sends-on, Round, round, Rounds, begin, next}
 use Rattle.pair.specs.Demand3.{RoundsExist}
 use Rattle.pair.proofs.Line.{Line, data-next, ack-next, idle-next, Idle, by-size, by-sum, a-nak}
 use Rattle.pair.proofs.Invariant.{Inv, inv-swap}
@@ -41,7 +43,7 @@ use Rattle.pair.proofs.Falls.{carried-falls, look-does, look-falls, onw
 
 -- ---- what a frame costs: it is answered by a cheaper one, if at all
 
-abbrev cost : Heard → ℕ
+abbrev pub cost : Heard → ℕ
 cost (Ack k) = 1
 cost (Data number nak k len) = 2
 cost (Nak k) = 3
@@ -52,7 +54,7 @@ cost ControlSize = 4
 cost Length = 4
 cost Reset = 4
 
-cost-some : (h : Heard) → 1 ≤ cost h
+pub cost-some : (h : Heard) → 1 ≤ cost h
 cost-some (Ack k) = omega arith
 cost-some (Data number nak k len) = omega arith
 cost-some (Nak k) = omega arith
@@ -63,30 +65,30 @@ cost-some ControlSize = omega arith
 cost-some Length = omega arith
 cost-some Reset = omega arith
 
-abbrev load : ℕ → List (List ℕ) → ℕ
+abbrev pub load : ℕ → List (List ℕ) → ℕ
 load d [] = 0
 load d (x ∷ q) = cost (heard d x) + load d q
 
-load-append : (d : ℕ) (p q : List (List ℕ)) → load d (p ++ q) ≡ load d p + load d q
+pub load-append : (d : ℕ) (p q : List (List ℕ)) → load d (p ++ q) ≡ load d p + load d q
 load-append d [] q = omega arith
 load-append d (x ∷ p) q = omega (arith, load-append d p q)
 
 -- a take that used its frame up, and answered with less
-record Used (d : ℕ) (h : Heard) (a : After Outcome) : Type 0 where
-  less : load d (sentBy a) + 1 ≤ cost h
-  gone : eqb (a .told .answer) shortBuffer ≡ false
+pub record Used (d : ℕ) (h : Heard) (a : After Outcome) : Type 0 where
+  pub less : load d (sentBy a) + 1 ≤ cost h
+  pub gone : eqb (a .told .answer) shortBuffer ≡ false
 
-used-nothing : (d : ℕ) (h : Heard) (l : Link) (slots frame : List ℕ) (answer delivered : ℕ) → eqb answer shortBuffer ≡ false → Used d h (ends (silent l frame) answer delivered slots)
+pub used-nothing : (d : ℕ) (h : Heard) (l : Link) (slots frame : List ℕ) (answer delivered : ℕ) → eqb answer shortBuffer ≡ false → Used d h (ends (silent l frame) answer delivered slots)
 used-nothing d h l slots frame answer delivered e = record { less = omega (arith, cost-some h); gone = e }
 
-used-sent : (d : ℕ) (h reply : Heard) (l : Link) (bytes slots frame : List ℕ) (answer delivered : ℕ) → eqb answer shortBuffer ≡ false → 1 ≤ length bytes → length bytes ≤ length frame
+pub used-sent : (d : ℕ) (h reply : Heard) (l : Link) (bytes slots frame : List ℕ) (answer delivered : ℕ) → eqb answer shortBuffer ≡ false → 1 ≤ length bytes → length bytes ≤ length frame
     → heard d bytes ≡ reply → cost reply + 1 ≤ cost h → Used d h (ends (sends l bytes frame) answer delivered slots)
 used-sent d h reply l bytes slots frame answer delivered e lo hi m c =
     record { less = rw (sent-frame l bytes frame slots answer delivered lo hi, m) (omega arith); gone = e }
 
 -- ---- each kind of frame
 
-used-nak : (s : Settings) (h : Heard) (l : Link) (slots frame : List ℕ) (answer : ℕ) → InRange s → s .d ≤ length frame → cost h ≡ 4 → eqb answer shortBuffer ≡ false
+pub used-nak : (s : Settings) (h : Heard) (l : Link) (slots frame : List ℕ) (answer : ℕ) → InRange s → s .d ≤ length frame → cost h ≡ 4 → eqb answer shortBuffer ≡ false
     → Used (s .d) h (ends (sendsNak l frame) answer 0 slots)
 used-nak s h l slots frame answer r room four e = go (l .naked)
   where
@@ -103,7 +105,7 @@ used-nak s h l slots frame answer r room four e = go (l .naked)
     go true = used-nothing (s .d) h l slots frame answer 0 e
     go false = used-sent (s .d) h (Nak k) (marked l) (nakFrame k) slots frame answer 0 e (omega (arith, size)) (omega (arith, size, r .d-lo)) (nak-heard (s .d) k (omega (arith, small)) (omega (arith, r .d-lo))) (omega (arith, four))
 
-used-idle : (s : Settings) (S : System) (frame : List ℕ) (ms : ℕ) (h : Heard) → InRange s → Inv s S → s .d ≤ length frame → acknowledgedIn h ≤ 3 → Idle h
+pub used-idle : (s : Settings) (S : System) (frame : List ℕ) (ms : ℕ) (h : Heard) → InRange s → Inv s S → s .d ≤ length frame → acknowledgedIn h ≤ 3 → Idle h
     → Used (s .d) h (obeyed (S .here .state) (S .here .slots) frame ms h)
 unfolding obeyed
 used-idle s S frame ms Size r I room small by-size = used-nak s Size (S .here .state) (S .here .slots) frame 6 r room refl refl
@@ -130,10 +132,13 @@ used-idle s S frame ms (Nak k) r I room small (a-nak k₁) = go (repeatable l k)
         (used-sent (s .d) (Nak k) (Data k₂ false (lastCorrect l) (length packet)) _ bytes (S .here .slots) frame done 0 refl (omega arith) (omega arith) m (omega arith))
     go false e = used-nothing (s .d) (Nak k) l (S .here .slots) frame done 0 refl
 
-used-data : (s : Settings) (l : Link) (slots frame : List ℕ) (ms number k len : ℕ) → InRange s → s .d ≤ length frame
+pub used-data : (s : Settings) (l : Link) (slots frame : List ℕ) (ms number k len : ℕ) → InRange s → s .d ≤ length frame
     → Used (s .d) (Data number false k len) (obeyed l slots frame ms (Data number false k len))
-unfolding obeyed dataTaken
-used-data s l slots frame ms number k len r room = go (eqb number (l .expected))
+used-data s l slots frame ms number k len r room =
+    data-taken (λ a. Used (s .d) (Data number false k len) a) l slots frame ms number k len
+    (λ e. used-nothing (s .d) (Data number false k len) (afterDelivery six ms) slots frame done len refl)
+    (λ n. used-sent (s .d) (Data number false k len) (Ack (lastCorrect six)) (quiet six) (ackFrame (lastCorrect six)) slots frame unexpected 0 refl (omega (arith, size)) (omega (arith, size, r .d-lo))
+    (ack-heard (s .d) (lastCorrect six) (omega arith) (omega (arith, r .d-lo))) (omega arith))
   where
     six : Link
     six = freed l k
@@ -141,16 +146,11 @@ used-data s l slots frame ms number k len r room = go (eqb number (l .expected))
     size : length (ackFrame (lastCorrect six)) ≡ 5
     size = frameOf-length (0x80 + lastCorrect six) []
 
-    go : (t : Bool) → Used (s .d) (Data number false k len) (cond t (ends (silent (afterDelivery (freed l k) ms) frame) done len slots) (ends (sendsAck (freed l k) frame) unexpected 0 slots))
-    go true = used-nothing (s .d) (Data number false k len) (afterDelivery (freed l k) ms) slots frame done len refl
-    go false = used-sent (s .d) (Data number false k len) (Ack (lastCorrect six)) (quiet six) (ackFrame (lastCorrect six)) slots frame unexpected 0 refl (omega (arith, size)) (omega (arith, size, r .d-lo))
-        (ack-heard (s .d) (lastCorrect six) (omega arith) (omega (arith, r .d-lo))) (omega arith)
-
-used-ack : (s : Settings) (l : Link) (slots frame : List ℕ) (ms k : ℕ) → Used (s .d) (Ack k) (obeyed l slots frame ms (Ack k))
+pub used-ack : (s : Settings) (l : Link) (slots frame : List ℕ) (ms k : ℕ) → Used (s .d) (Ack k) (obeyed l slots frame ms (Ack k))
 unfolding obeyed
 used-ack s l slots frame ms k = used-nothing (s .d) (Ack k) (freed l k) slots frame done 0 refl
 
-used-head : (s : Settings) (S : System) (frame received : List ℕ) (rest : List (List ℕ)) (ms : ℕ) (t : List (List ℕ)) (h b e : ℕ) → InRange s → Inv s S → s .d ≤ length frame
+pub used-head : (s : Settings) (S : System) (frame received : List ℕ) (rest : List (List ℕ)) (ms : ℕ) (t : List (List ℕ)) (h b e : ℕ) → InRange s → Inv s S → s .d ≤ length frame
     → Line (s .d) t h b e (received ∷ rest) → Used (s .d) (heard (s .d) received) (obeyed (S .here .state) (S .here .slots) frame ms (heard (s .d) received))
 used-head s S frame received rest ms t h b e r I room (data-next f x len m p lo u v w) =
     subst (λ y. Used (s .d) y (obeyed (S .here .state) (S .here .slots) frame ms y)) (sym m) (used-data s (S .here .state) (S .here .slots) frame ms (f % 4) ((x + 3) % 4) len r room)
@@ -160,11 +160,11 @@ used-head s S frame received rest ms t h b e r I room (idle-next m w) = used-idl
 
 -- ---- the gate, with buffers that are long enough
 
-sound-gate : (l : Link) (slots frame : ℕ) → Sound l → slotsNeed (l .settings) ≤ slots → frameNeed (l .settings) ≤ frame → gateOf l slots frame ≡ cond (l .lost) linkLost done
+pub sound-gate : (l : Link) (slots frame : ℕ) → Sound l → slotsNeed (l .settings) ≤ slots → frameNeed (l .settings) ≤ frame → gateOf l slots frame ≡ cond (l .lost) linkLost done
 unfolding gateOf entryOf
 sound-gate l slots frame s h k = rw (s .formed, le-ltb slots (slotsNeed (l .settings)) h, le-ltb frame (frameNeed (l .settings)) k)
 
-used-take : (s : Settings) (S : System) (frame received : List ℕ) (rest : List (List ℕ)) (ms : ℕ) → InRange s → Inv s S → Enough S frame → S .here .queue ≡ received ∷ rest
+pub used-take : (s : Settings) (S : System) (frame received : List ℕ) (rest : List (List ℕ)) (ms : ℕ) → InRange s → Inv s S → Enough S frame → S .here .queue ≡ received ∷ rest
     → Used (s .d) (heard (s .d) received) (taken (S .here .state) (S .here .slots) frame ms received)
 unfolding taken
 used-take s S frame received rest ms r I enough e =
@@ -193,33 +193,33 @@ used-take s S frame received rest ms r I enough e =
 -- ---- carrying ends
 
 -- a frame buffer that is long enough
-blank : ℕ → List ℕ
+unfoldable pub blank : ℕ → List ℕ
 blank zero = []
 blank (suc n) = 0 ∷ blank n
 
-blank-length : (n : ℕ) → length (blank n) ≡ n
+pub blank-length : (n : ℕ) → length (blank n) ≡ n
 unfolding blank
 blank-length zero = refl
 blank-length (suc n) = ap suc (blank-length n)
 
-enough : (S : System) → Enough S (blank (frameNeed (S .here .state .settings)))
+pub enough : (S : System) → Enough S (blank (frameNeed (S .here .state .settings)))
 enough S = omega (arith, blank-length (frameNeed (S .here .state .settings)))
 
-record Emptied (s : Settings) (ms : ℕ) (S : System) : Type 0 where
-  end : System
-  carries : Carries ms S end
-  inv : Inv s end
-  noHere : end .here .queue ≡ []
-  noThere : end .there .queue ≡ []
+pub record Emptied (s : Settings) (ms : ℕ) (S : System) : Type 0 where
+  pub end : System
+  pub carries : Carries ms S end
+  pub inv : Inv s end
+  pub noHere : end .here .queue ≡ []
+  pub noThere : end .there .queue ≡ []
 
 -- the frame at the head is taken, and the load falls
-record Stepped (s : Settings) (ms : ℕ) (S : System) : Type 0 where
-  end : System
-  carried : Carried ms S end
-  inv : Inv s end
-  less : load (s .d) (end .here .queue) + load (s .d) (end .there .queue) + 1 ≤ load (s .d) (S .here .queue) + load (s .d) (S .there .queue)
+pub record Stepped (s : Settings) (ms : ℕ) (S : System) : Type 0 where
+  pub end : System
+  pub carried : Carried ms S end
+  pub inv : Inv s end
+  pub less : load (s .d) (end .here .queue) + load (s .d) (end .there .queue) + 1 ≤ load (s .d) (S .here .queue) + load (s .d) (S .there .queue)
 
-stepped : (s : Settings) (S : System) (ms : ℕ) (received : List ℕ) (rest : List (List ℕ)) → IsClock ms → InRange s → Inv s S → S .here .queue ≡ received ∷ rest → Stepped s ms S
+unfoldable pub stepped : (s : Settings) (S : System) (ms : ℕ) (received : List ℕ) (rest : List (List ℕ)) → IsClock ms → InRange s → Inv s S → S .here .queue ≡ received ∷ rest → Stepped s ms S
 stepped s S ms received rest c r I e =
     let frame : List ℕ = blank (frameNeed (S .here .state .settings)) in
     let a : After Outcome = taken (S .here .state) (S .here .slots) frame ms received in
@@ -233,7 +233,7 @@ stepped s S ms received rest c r I e =
       less = omega (arith, u .less, ap (load (s .d)) left, ap (load (s .d)) e, load-append (s .d) (S .there .queue) (sentBy a));
     }
 
-emptied : (s : Settings) (n ms : ℕ) (S : System) → IsClock ms → InRange s → Inv s S → load (s .d) (S .here .queue) + load (s .d) (S .there .queue) ≤ n → Emptied s ms S
+unfoldable pub emptied : (s : Settings) (n ms : ℕ) (S : System) → IsClock ms → InRange s → Inv s S → load (s .d) (S .here .queue) + load (s .d) (S .there .queue) ≤ n → Emptied s ms S
 emptied s zero ms S c r I h = go (S .here .queue) (S .there .queue) refl refl
   where
     go : (p q : List (List ℕ)) → S .here .queue ≡ p → S .there .queue ≡ q → Emptied s ms S
@@ -255,12 +255,12 @@ emptied s (suc n) ms S c r I h = go (λ T J less. emptied s n ms T c r J less) (
 
 -- ---- looking ends
 
-record Watched (s : Settings) (ms : ℕ) (S : System) : Type 0 where
-  end : System
-  looks-so : Looks ms S end
-  inv : Inv s end
+pub record Watched (s : Settings) (ms : ℕ) (S : System) : Type 0 where
+  pub end : System
+  pub looks-so : Looks ms S end
+  pub inv : Inv s end
 
-watched : (s : Settings) (n ms : ℕ) (S : System) → IsClock ms → InRange s → Inv s S → weight (S .here .state) ≤ n → Watched s ms S
+unfoldable pub watched : (s : Settings) (n ms : ℕ) (S : System) → IsClock ms → InRange s → Inv s S → weight (S .here .state) ≤ n → Watched s ms S
 watched s zero ms S c r I h = go (eqb (lookOf S frame ms .told .sent) 0) refl
   where
     frame : List ℕ
@@ -291,13 +291,13 @@ watched s (suc n) ms S c r I h = go (λ J less. watched s n ms (looks S frame ms
 
 -- ---- rounds
 
-record ARound (s : Settings) (ms : ℕ) (S : System) : Type 0 where
-  end : System
-  passed : ℕ
-  turn : Round ms S passed end
-  inv : Inv s end
+pub record ARound (s : Settings) (ms : ℕ) (S : System) : Type 0 where
+  pub end : System
+  pub passed : ℕ
+  pub turn : Round ms S passed end
+  pub inv : Inv s end
 
-a-round : (s : Settings) (S : System) (ms : ℕ) → IsClock ms → InRange s → Inv s S → ARound s ms S
+unfoldable pub a-round : (s : Settings) (S : System) (ms : ℕ) → IsClock ms → InRange s → Inv s S → ARound s ms S
 a-round s S ms c r I =
     let k : Emptied s ms S = emptied s (load (s .d) (S .here .queue) + load (s .d) (S .there .queue)) ms S c r I (omega arith) in
     let t : Moved (k .end) ms = moved s (k .end) ms r (k .inv) c in
@@ -311,20 +311,20 @@ a-round s S ms c r I =
       inv = inv-swap s (b .end) (b .inv);
     }
 
-record Led (s : Settings) (ms : ℕ) (S : System) (n : ℕ) : Type 0 where
-  end : System
-  total : ℕ
-  rounds : Rounds ms S n total end
-  inv : Inv s end
+pub record Led (s : Settings) (ms : ℕ) (S : System) (n : ℕ) : Type 0 where
+  pub end : System
+  pub total : ℕ
+  pub rounds : Rounds ms S n total end
+  pub inv : Inv s end
 
-led : (s : Settings) (S : System) (ms n : ℕ) → IsClock ms → InRange s → Inv s S → Led s ms S n
+unfoldable pub led : (s : Settings) (S : System) (ms n : ℕ) → IsClock ms → InRange s → Inv s S → Led s ms S n
 led s S ms zero c r I = record { end = S; total = 0; rounds = begin; inv = I }
 led s S ms (suc n) c r I =
     let k : Led s ms S n = led s S ms n c r I in
     let a : ARound s (onward ms (k .total)) (k .end) = a-round s (k .end) (onward ms (k .total)) (onward-clock ms (k .total)) r (k .inv) in
     record { end = a .end; total = k .total + a .passed; rounds = next n (k .total) (a .passed) (k .end) (a .end) (k .rounds) (a .turn); inv = a .inv }
 
-pub rounds-exist : RoundsExist
+unfoldable pub rounds-exist : RoundsExist
 rounds-exist s S ms n m c =
     let k : Led s ms S n = led s S ms n c (moment-range s S m) (moment-kept s S m) in
     record { end = k .end; total = k .total; rounds = k .rounds }

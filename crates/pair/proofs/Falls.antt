@@ -30,10 +30,12 @@ use Rattle.send.specs.Makers.{silent, ends, sends, marked, sendsAck, sendsRepea
 use Rattle.send.proofs.Facts.{behind-sentBefore}
 use Rattle.receive.specs.Steps.{freed, repeatable, afterDelivery}
 use Rattle.receive.specs.Take.{obeyed, taken, dataTaken}
+use Rattle.receive.proofs.Facts.{data-taken}
 use Rattle.clock.specs.Look.{lookedAt, looked}
 use Rattle.pair.specs.System.{System, swap, deliveredBy, takes, lookOf, looks, IsClock, Moment}
-use Rattle.pair.specs.Round.{Enough, Carried, head, Carries, none, here, there, runs, dueAt, someRuns, someDue, onward, Passes, stays, first, Looks, nothing, sends-on, Round, round, Rounds, begin, next}
-use Rattle.pair.specs.Demand3.{Through, Alive, Within24}
+use Rattle.state.specs.Timer.{onward}
+use Rattle.pair.specs.Round.{Enough, Carried, head, Carries, none, here, there, runs, dueAt, someRuns, someDue, Passes, stays, first, Looks, nothing, sends-on, Round, round, Rounds, begin, next}
+use Rattle.pair.specs.Demand3.{Through, Alive, WithinRounds, Within24}
 use Rattle.pair.proofs.Line.{Line, data-next, ack-next, idle-next, Idle, by-size, by-sum, a-nak, line-taken, line-freed}
 use Rattle.pair.proofs.Invariant.{Inv, inv-swap, window-small}
 use Rattle.pair.proofs.Calls.{gated-cases, gated-open}
@@ -75,14 +77,10 @@ calm-ack l slots frame ms k = record { low = omega (arith, freed-spare l k); few
 
 calm-data : (l : Link) (slots frame received : List ℕ) (ms number k len : ℕ) → 1 ≤ len
     → Calm l (obeyed l slots frame ms (Data number false k len)) (got (obeyed l slots frame ms (Data number false k len)) received)
-unfolding obeyed dataTaken
-calm-data l slots frame received ms number k len lo = go (eqb number (l .expected))
-  where
-    go : (t : Bool)
-        → Calm l (cond t (ends (silent (afterDelivery (freed l k) ms) frame) done len slots) (ends (sendsAck (freed l k) frame) unexpected 0 slots))
-        (got (cond t (ends (silent (afterDelivery (freed l k) ms) frame) done len slots) (ends (sendsAck (freed l k) frame) unexpected 0 slots)) received)
-    go true = rw (ne-eqb len 0 (λ q. omega arith)) (record { low = omega (arith, freed-spare l k, bit-small (l .acking)); few = freed-fewer l k; sticks = λ h. h })
-    go false = record { low = omega (arith, freed-spare l k); few = freed-fewer l k; sticks = λ h. h }
+calm-data l slots frame received ms number k len lo =
+    data-taken (λ a. Calm l a (got a received)) l slots frame ms number k len
+    (λ e. rw (ne-eqb len 0 (λ q. omega arith)) (record { low = omega (arith, freed-spare l k, bit-small (l .acking)); few = freed-fewer l k; sticks = λ h. h }))
+    (λ n. record { low = omega (arith, freed-spare l k); few = freed-fewer l k; sticks = λ h. h })
 
 calm-more : (l : Link) (a : After Outcome) (n : ℕ) → Calm l a 0 → Calm l a n
 calm-more l a n c = record { low = omega (arith, c .low); few = c .few; sticks = c .sticks }
@@ -371,7 +369,7 @@ empty-through s S I e =
     }
 
 -- after 23 rounds, or more
-pub within-23 : (s : Settings) (S T : System) (ms n total : ℕ) → Moment s S → IsClock ms → 23 ≤ n → Rounds ms S n total T → Alive T → Through T
+pub within-23 : WithinRounds 23
 within-23 s S T ms n total m c h k alive =
     let r : InRange s = moment-range s S m in
     let I : Inv s S = moment-kept s S m in

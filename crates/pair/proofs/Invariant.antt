@@ -20,7 +20,7 @@ use Rattle.state.proofs.Keeps.{changed, fresh-sound}
 use Rattle.base.specs.Buffer.{put}
 use Rattle.send.specs.Repeat.{partOf, packetOf}
 use Rattle.send.specs.Submit.{sentFirst}
-use Rattle.pair.proofs.Slots.{new-packet, old-packet}
+use Rattle.send.proofs.Slots.{new-packet, old-packet}
 use Rattle.receive.proofs.Keeps.{freed-sound, afterDelivery-sound}
 use Rattle.receive.specs.Steps.{freed, afterDelivery}
 use Rattle.pair.specs.System.{Side, System, swap, Harm, freshSide, IsClock}

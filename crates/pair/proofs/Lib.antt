@@ -1,5 +1,4 @@
 pub mod Line
-pub mod Slots
 pub mod Invariant
 pub mod Calls
 pub mod Moves
@@ -8,3 +7,4 @@ pub mod Falls
 pub mod Timers
 pub mod Milliseconds
 pub mod Exist
+pub mod Worked

@@ -11,11 +11,11 @@ use Rattle.base.proofs.Tests.{and-left}
 use Rattle.state.specs.declared.Settings.{Settings}
 use Rattle.state.specs.declared.Link.{Link}
 use Rattle.state.specs.State.{sentBefore, startOf}
-use Rattle.state.specs.Timer.{due}
+use Rattle.state.specs.Timer.{due, onward}
 use Rattle.state.specs.Formed.{InRange}
 use Rattle.clock.specs.Look.{packetDue, acknowledgeDue}
 use Rattle.pair.specs.System.{System, IsClock}
-use Rattle.pair.specs.Round.{runs, dueAt, someRuns, someDue, onward, Passes, stays, first, Round, round, Rounds, begin, next}
+use Rattle.pair.specs.Round.{runs, dueAt, someRuns, someDue, Passes, stays, first, Round, round, Rounds, begin, next}
 use Rattle.pair.specs.Demand3.{Alive, InMilliseconds}
 use Rattle.pair.proofs.Invariant.{Inv}
 use Rattle.pair.proofs.Moves.{moment-range, moment-kept}

@@ -34,7 +34,8 @@ use Rattle.send.proofs.Facts.{Accepting, submitGate-facts, part-fits, behind-se
 use Rattle.send.proofs.Keeps.{dataSent-sound, queued-sound}
 use Rattle.clock.specs.Look.{packetDue, acknowledgeDue, afterOldest, exhausted, served, acknowledgedIf, lookedAt, looked, acknowledgedNow}
 use Rattle.receive.specs.Steps.{freed, repeatable, afterDelivery}
-use Rattle.receive.specs.Take.{obeyed, taken, dataTaken}
+use Rattle.receive.specs.Take.{obeyed, taken}
+use Rattle.receive.proofs.Facts.{data-taken}
 use Rattle.pair.specs.System.{System, swap, sentBy, takenBy, deliveredBy, leftBy, called, submits, takes, looks, acknowledges, Harm, IsClock, Move, submit, take-head, look, acknowledge, harm, Moment, start, here, there}
 use Rattle.pair.specs.Demand3.{FirstSoMany}
 use Rattle.pair.proofs.Line.{Line, data-next, ack-next, idle-next, Idle, by-size, by-sum, a-nak, line-taken, line-freed, line-mono}
@@ -85,8 +86,8 @@ data-kept : (s : Settings) (S : System) (frame received : List ℕ) (rest : List
     → packetIn received len ≡ getD (S .there .takenIn) f [] → 1 ≤ len → I .gotHere ≤ f + 2 → I .freedHere ≤ x
     → Line (s .d) (S .there .takenIn) (max (I .gotHere) (suc f)) x (I .gotThere) rest
     → Inv s (taking S received rest (obeyed (S .here .state) (S .here .slots) frame ms (Data (f % 4) false ((x + 3) % 4) len)))
-unfolding obeyed dataTaken
-data-kept s S frame received rest ms f x len I c r room p lo u v w = go (eqb (f % 4) (l .expected)) refl
+data-kept s S frame received rest ms f x len I c r room p lo u v w =
+    data-taken (λ a. Inv s (taking S received rest a)) l (S .here .slots) frame ms (f % 4) ((x + 3) % 4) len same other
   where
     l : Link
     l = S .here .state
@@ -97,19 +98,19 @@ data-kept s S frame received rest ms f x len I c r room p lo u v w = go (eqb (f 
     t : List (List ℕ)
     t = S .there .takenIn
 
-    go : (y : Bool) → eqb (f % 4) (l .expected) ≡ y
-        → Inv s (taking S received rest (cond y (ends (silent (afterDelivery (freed l ((x + 3) % 4)) ms) frame) done len (S .here .slots))
-        (ends (sendsAck (freed l ((x + 3) % 4)) frame) unexpected 0 (S .here .slots))))
-    go true e =
+    same : f % 4 ≡ l .expected → Inv s (taking S received rest (ends (silent (afterDelivery (freed l ((x + 3) % 4)) ms) frame) done len (S .here .slots)))
+    same e =
         let few : S .there .state .waiting ≤ 2 = window-small s (S .there) (S .here .takenIn) (I .freedThere) (I .gotThere) (I .there) in
         let more : max g (suc f) ≤ length t = line-taken (s .d) t rest w in
         let back : I .freedThere ≤ g = line-freed (s .d) (S .here .takenIn) (S .there .queue) (I .toThere) in
-        let same : f ≡ g = omega (arith, eqb-true (f % 4) (l .expected) e, I .here .expected, I .there .window) in
+        let at : f ≡ g = omega (arith, I .here .expected, I .there .window) in
         let next : max g (suc f) ≡ suc g = omega arith in
-        let packet : packetIn received len ≡ getD t g [] = p ∙ ap (λ (k : ℕ). getD t k []) same in
+        let packet : packetIn received len ≡ getD t g [] = p ∙ ap (λ (k : ℕ). getD t k []) at in
         subst (Inv s) (sym (called-delivering S (afterDelivery (freed l ((x + 3) % 4)) ms) frame received rest len lo))
         (inv-delivered s S ms x rest (packetIn received len) I c v (omega arith) packet (subst (λ h. Line (s .d) t h x (I .gotThere) rest) next w))
-    go false e =
+
+    other : (f % 4 ≡ l .expected → ⊥) → Inv s (taking S received rest (ends (sendsAck (freed l ((x + 3) % 4)) frame) unexpected 0 (S .here .slots)))
+    other n =
         pass-kept s S frame received rest x r room
         (inv-freed s S x rest I v (line-mono (s .d) t {h = max g (suc f)} {b = x} {e = I .gotThere} {h₁ = g} {b₁ = x} {e₁ = I .gotThere} rest (omega arith) (omega arith) (omega arith) w))
 

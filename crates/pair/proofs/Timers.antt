@@ -8,16 +8,13 @@ use lib.Dec.{eqb, ltb}
 use Rattle.state.specs.declared.Settings.{Settings}
 use Rattle.state.specs.declared.Link.{Link}
 use Rattle.state.specs.State.{sentBefore, startOf}
-use Rattle.state.specs.Timer.{left, due}
+use Rattle.state.specs.Timer.{left, due, onward}
 use Rattle.state.specs.Formed.{InRange}
+use Rattle.state.proofs.Facts.{left-due}
 use Rattle.clock.specs.Look.{packetDue, acknowledgeDue}
 use Rattle.pair.specs.System.{System, IsClock}
-use Rattle.pair.specs.Round.{runs, dueAt, someRuns, someDue, onward, Passes, stays, first}
+use Rattle.pair.specs.Round.{runs, dueAt, someRuns, someDue, Passes, stays, first}
 use Rattle.pair.proofs.Invariant.{Timed, Inv}
-
--- when as many milliseconds have passed as were left, the timer is due, wherever the clock wraps
-pub left-due : (timeout start ms : ℕ) → timeout ≤ 1000 → IsClock start → IsClock ms → due timeout start (onward ms (left timeout start ms)) ≡ true
-left-due timeout start ms h s c = eq-eqb (left timeout start (onward ms (left timeout start ms))) 0 (omega arith)
 
 -- ---- the least number at which a test holds
 
@@ -28,7 +25,7 @@ pub record Least (test : ℕ → Bool) (bound : ℕ) : Type 0 where
   pub before : (k : ℕ) → k < at → test k ≡ false
 
 -- from k on, where it fails before k
-search-from : (test : ℕ → Bool) (fuel k bound : ℕ) → k + fuel ≡ bound → test bound ≡ true → ((i : ℕ) → i < k → test i ≡ false) → Least test bound
+unfoldable pub search-from : (test : ℕ → Bool) (fuel k bound : ℕ) → k + fuel ≡ bound → test bound ≡ true → ((i : ℕ) → i < k → test i ≡ false) → Least test bound
 search-from test zero k bound e h none = record { at = bound; within = omega arith; holds = h; before = λ i lt. none i (omega arith) }
 search-from test (suc fuel) k bound e h none = go (λ f. search-from test fuel (suc k) bound (omega arith) h f) (test k) refl
   where
@@ -40,21 +37,21 @@ search-from test (suc fuel) k bound e h none = go (λ f. search-from test fuel (
         inner i lt true e₁ = subst (λ n. test n ≡ false) (sym (eqb-true i k e₁)) q
         inner i lt false e₁ = none i (omega (arith, eqb-false i k e₁))
 
-pub least : (test : ℕ → Bool) (bound : ℕ) → test bound ≡ true → Least test bound
+unfoldable pub least : (test : ℕ → Bool) (bound : ℕ) → test bound ≡ true → Least test bound
 least test bound h = search-from test bound 0 bound (omega arith) h (λ i lt. absurd (omega arith))
 
 -- ---- an end's timers
 
-or-1 : (a b c : Bool) → a ≡ true → (a || b || c) ≡ true
+pub or-1 : (a b c : Bool) → a ≡ true → (a || b || c) ≡ true
 or-1 true b c e = refl
 or-1 false b c e = absurd (true≢false (sym e))
 
-or-3 : (a b c : Bool) → c ≡ true → (a || b || c) ≡ true
+pub or-3 : (a b c : Bool) → c ≡ true → (a || b || c) ≡ true
 or-3 true b c e = refl
 or-3 false true c e = refl
 or-3 false false c e = e
 
-and-intro : (a b : Bool) → a ≡ true → b ≡ true → (a && b) ≡ true
+pub and-intro : (a b : Bool) → a ≡ true → b ≡ true → (a && b) ≡ true
 and-intro true b p q = q
 and-intro false b p q = absurd (true≢false (sym p))
 
@@ -64,7 +61,7 @@ pub record Soon (test : ℕ → Bool) (most : ℕ) : Type 0 where
   pub within : after ≤ most
   pub holds : test after ≡ true
 
-pub end-soon : (s : Settings) (l : Link) (ms : ℕ) → InRange s → l .settings ≡ s → Timed l → IsClock ms → runs l ≡ true → Soon (λ k. dueAt l (onward ms k)) (s .transmit)
+unfoldable pub end-soon : (s : Settings) (l : Link) (ms : ℕ) → InRange s → l .settings ≡ s → Timed l → IsClock ms → runs l ≡ true → Soon (λ k. dueAt l (onward ms k)) (s .transmit)
 end-soon s l ms r e t c q = go (ltb 0 (l .waiting)) refl q
   where
     transmit : l .settings .transmit ≡ s .transmit
@@ -91,15 +88,15 @@ end-soon s l ms r e t c q = go (ltb 0 (l .waiting)) refl q
 
 -- ---- both ends
 
-or-left : (a b : Bool) → a ≡ true → (a || b) ≡ true
+pub or-left : (a b : Bool) → a ≡ true → (a || b) ≡ true
 or-left true b e = refl
 or-left false b e = absurd (true≢false (sym e))
 
-or-second : (a b : Bool) → b ≡ true → (a || b) ≡ true
+pub or-second : (a b : Bool) → b ≡ true → (a || b) ≡ true
 or-second true b e = refl
 or-second false b e = e
 
-pub some-soon : (s : Settings) (S : System) (ms : ℕ) → InRange s → Inv s S → IsClock ms → someRuns S ≡ true → Soon (λ k. someDue S (onward ms k)) (s .transmit)
+unfoldable pub some-soon : (s : Settings) (S : System) (ms : ℕ) → InRange s → Inv s S → IsClock ms → someRuns S ≡ true → Soon (λ k. someDue S (onward ms k)) (s .transmit)
 some-soon s S ms r I c q = go (runs (S .here .state)) refl q
   where
     go : (y : Bool) → runs (S .here .state) ≡ y → (y || runs (S .there .state)) ≡ true → Soon (λ k. someDue S (onward ms k)) (s .transmit)
@@ -115,7 +112,7 @@ pub record Moved (S : System) (ms : ℕ) : Type 0 where
   pub passed : ℕ
   pub passes : Passes S ms passed
 
-pub moved : (s : Settings) (S : System) (ms : ℕ) → InRange s → Inv s S → IsClock ms → Moved S ms
+unfoldable pub moved : (s : Settings) (S : System) (ms : ℕ) → InRange s → Inv s S → IsClock ms → Moved S ms
 moved s S ms r I c = go (someRuns S) refl
   where
     go : (y : Bool) → someRuns S ≡ y → Moved S ms

@@ -1,4 +1,4 @@
--- Demand 3, in four statements. None of them speaks of a lost link but where it says so.
+-- Demand 3, in four statements. The first holds past a lost link too.
 use Prim.Native.Nat.{ℕ, _*_, _≤_}
 use mathlib.Core.Bool.{false}
 use mathlib.Core.List.{List}
@@ -31,9 +31,12 @@ pub record Alive (S : System) : Type 0 where
 
 -- "From any such moment, if nothing new is handed in, nothing more is lost or damaged and no link is declared lost, then within 24 timer rounds
 -- of document 01 every packet taken is delivered and both windows are empty": after 24 rounds, and after any more
+abbrev pub WithinRounds : ℕ → Type 0
+WithinRounds bound =
+    (s : Settings) (S T : System) (ms n total : ℕ) → Moment s S → IsClock ms → bound ≤ n → Rounds ms S n total T → Alive T → Through T
+
 abbrev pub Within24 : Type 0
-Within24 =
-    (s : Settings) (S T : System) (ms n total : ℕ) → Moment s S → IsClock ms → 24 ≤ n → Rounds ms S n total T → Alive T → Through T
+Within24 = WithinRounds 24
 
 -- rounds can always be played, so many as one likes, from any moment and at any clock
 pub record Played (ms : ℕ) (S : System) (n : ℕ) : Type 0 where

@@ -1,3 +1,4 @@
 pub mod System
 pub mod Round
 pub mod Demand3
+pub mod Run

@@ -9,6 +9,7 @@ use lib.ListN.{length}
 use lib.Dec.{ltb}
 use Rattle.state.specs.declared.Link.{Link}
 use Rattle.state.specs.Bounds.{frameNeed}
+use Rattle.state.specs.Timer.{onward}
 use Rattle.clock.specs.Look.{packetDue, acknowledgeDue}
 use Rattle.pair.specs.System.{System, swap, takes, lookOf, looks}
 
@@ -39,10 +40,6 @@ someRuns S = runs (S .here .state) || runs (S .there .state)
 
 abbrev pub someDue : System → ℕ → Bool
 someDue S ms = dueAt (S .here .state) ms || dueAt (S .there .state) ms
-
--- the clock so many milliseconds on, "wherever the clock wraps"
-abbrev pub onward : ℕ → ℕ → ℕ
-onward ms passed = (ms + passed) % 4294967296
 
 -- how far the clock is moved: to the first moment at which a timer is due, which is now if one is due now
 pub data Passes (S : System) (ms : ℕ) : ℕ → Type 0 where

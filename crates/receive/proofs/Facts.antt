@@ -1,13 +1,15 @@
 -- What taking a frame cites. Assumes nothing.
 use mathlib.Core.Path.{_≡_, refl, sym}
-use mathlib.Core.Bool.{Bool, true, false, true≢false, _&&_}
+use mathlib.Core.Bool.{Bool, true, false, cond, true≢false, _&&_}
 use mathlib.Core.List.{List}
 use Prim.Native.Nat.{ℕ, _≤_}
 use lib.ListN.{length}
+use lib.Dec.{eqb}
 use native.Mathlib.Omega.{arith}
-use borrow.Author.Tests.{eq-eqb, ne-eqb}
+use borrow.Author.Tests.{eq-eqb, ne-eqb, eqb-true, eqb-false}
 use Rattle.base.specs.Answer.{done, unexpected}
 use Rattle.base.proofs.Tests.{and-left, and-right}
+use Rattle.frame.specs.declared.Heard.the-variants.{Data}
 use Rattle.frame.specs.Steps.{heard}
 use Rattle.state.specs.declared.Link.{Link}
 use Rattle.state.specs.State.{waits}
@@ -18,7 +20,7 @@ use Rattle.state.proofs.Facts.{gateOf-facts}
 use Rattle.send.specs.Repeat.{mayRepeat, Ready}
 use Rattle.send.proofs.Facts.{named-ready}
 use Rattle.send.specs.Makers.{silent, ends, sendsAck}
-use Rattle.receive.specs.Steps.{repeatable, afterStep6, afterDelivery}
+use Rattle.receive.specs.Steps.{freed, repeatable, afterStep6, afterDelivery}
 use Rattle.receive.specs.Take.{repeatedOr, dataTaken, obeyed, taken}
 
 -- an open gate has room for a control frame
@@ -61,3 +63,16 @@ pub unexpected-data : (l sixth : Link) (slots frame : List ℕ) (ms number : ℕ
     → r ≡ dataTaken l slots frame ms number nak acknowledged len
 unfolding dataTaken
 unexpected-data l sixth slots frame ms number nak repeat acknowledged len r n e six q = rw (ne-eqb number (l .expected) n) cc
+
+-- data that carries an ACK: the expected number is delivered, and no other
+pub data-taken : (P : After Outcome → Type 0) (l : Link) (slots frame : List ℕ) (ms number acknowledged len : ℕ)
+    → (number ≡ l .expected → P (ends (silent (afterDelivery (freed l acknowledged) ms) frame) done len slots))
+    → ((number ≡ l .expected → ⊥) → P (ends (sendsAck (freed l acknowledged) frame) unexpected 0 slots))
+    → P (obeyed l slots frame ms (Data number false acknowledged len))
+unfolding obeyed dataTaken
+data-taken P l slots frame ms number acknowledged len same other = go (eqb number (l .expected)) refl
+  where
+    go : (t : Bool) → eqb number (l .expected) ≡ t
+        → P (cond t (ends (silent (afterDelivery (freed l acknowledged) ms) frame) done len slots) (ends (sendsAck (freed l acknowledged) frame) unexpected 0 slots))
+    go true e = same (eqb-true number (l .expected) e)
+    go false e = other (eqb-false number (l .expected) e)

@@ -15,7 +15,7 @@ use Rattle.state.specs.declared.Link.{Link}
 use Rattle.state.specs.Bounds.{limitOf, inRange, slotsNeed, frameNeed}
 use Rattle.state.specs.State.{sentBefore, slotOf, lengthOf, lengthOk, numbersOk, wellFormed}
 use Rattle.state.specs.Gate.{entryOf, gateOf}
-use Rattle.state.specs.Timer.{elapsed, due}
+use Rattle.state.specs.Timer.{elapsed, left, due, onward}
 use Rattle.state.specs.Formed.{InRange, Length, Formed, Entered, Open}
 
 -- ---- settings
@@ -196,3 +196,7 @@ leb-left a b = go (leb a b) refl
 -- due: the elapsed time, by a subtraction that wraps, is at least the timeout
 pub due-leb : (timeout start ms between : ℕ) → between ≡ elapsed start ms → leb timeout between ≡ due timeout start ms
 due-leb timeout start ms between e = rw e (leb-left timeout (elapsed start ms))
+
+-- when as many milliseconds have passed as were left the timer is due, wherever the clock wraps
+pub left-due : (timeout start ms : ℕ) → timeout ≤ 1000 → start < 4294967296 → ms < 4294967296 → due timeout start (onward ms (left timeout start ms)) ≡ true
+left-due timeout start ms h s c = eq-eqb (left timeout start (onward ms (left timeout start ms))) 0 (omega arith)

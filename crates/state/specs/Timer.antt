@@ -13,3 +13,7 @@ left timeout start ms = timeout - elapsed start ms
 -- due: none is left
 abbrev pub due : ℕ → ℕ → ℕ → Bool
 due timeout start ms = eqb (left timeout start ms) 0
+
+-- the clock so many milliseconds on: it wraps at 2^32
+abbrev pub onward : ℕ → ℕ → ℕ
+onward ms passed = (ms + passed) % 4294967296

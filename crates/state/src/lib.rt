@@ -6,7 +6,7 @@ ghost use lib.ListN.{length};
 ghost use Rattle.state.specs.Bounds.{limitOf, inRange, slotsNeed};
 ghost use Rattle.state.specs.State.{lastCorrect, behind, sentBefore, slotOf, lengthOk, numbersOk, wellFormed, freshOf, renewed};
 ghost use Rattle.state.specs.Gate.{after, only, entryOf, gateOf};
-ghost use Rattle.state.specs.Timer.{due};
+ghost use Rattle.state.specs.Timer.{elapsed, due};
 ghost use Rattle.state.specs.Calls.{zeros, started, resetSent, resynchronised};
 
 pub struct Settings {
@@ -196,10 +196,16 @@ pub fn renew(l: Link) -> Link
 
 // ---- timers
 
+fn elapsed_since(start: u32, ms: u32) -> u32
+    ensures { λ r. ⌜ r ≡ elapsed start ms ⌝ }
+{
+    std::num::wrapping_sub_u32(ms, start)
+}
+
 pub fn is_due(timeout: u16, start: u32, ms: u32) -> bool
     ensures { λ r. ⌜ r ≡ due timeout start ms ⌝ }
 {
-    (timeout as u32) <= std::num::wrapping_sub_u32(ms, start)
+    (timeout as u32) <= elapsed_since(start, ms)
 }
 
 // ---- start and resynchronise
