@@ -24,7 +24,8 @@ use Rattle.state.specs.Formed.{InRange, Formed}
 use Rattle.state.proofs.Facts.{wellFormed-facts, slotOf-lt, part-inside}
 use Rattle.state.proofs.Keeps.{marked-sound}
 use Rattle.send.specs.Repeat.{partOf, packetOf, again, mayRepeat}
-use Rattle.send.specs.Makers.{sends, silent, ends, quiet, marked, sendsRepeat, sendsAck, sendsNak}
+use Rattle.send.specs.Makers.{Sending, sends, silent, ends, quiet, marked, sendsRepeat, sendsAck, sendsNak}
+use Rattle.send.proofs.Slots.{repeat-says}
 use Rattle.send.proofs.Keeps.{again-sound, quiet-sound}
 use Rattle.pair.specs.System.{Side, System, sentBy, called, IsClock}
 use Rattle.pair.proofs.Line.{Idle, a-nak, line-data, line-ack, line-idle}
@@ -182,4 +183,5 @@ ends-repeat s S j ms frame q answer c r room I h may =
     let formed : Formed l = wellFormed-facts l (I .here .sound .formed) in
     let len : length packet ≡ lengthOf l k = waiting-length s (restated S l q .here) (S .there .takenIn) (I .freedHere) (I .gotHere) j (I .here) h in
     let d : l .settings .d ≡ s .d = ap (λ (x : Settings). x .d) (I .here .settings) in
-    ends-sent s S (again l k ms) bytes frame q answer (omega arith) (omega (arith, formed .lengths j h .most, r .d-lo)) (inv-repeated s (restated S l q) j ms c r I h may)
+    subst (λ (x : Sending). Inv s (called S (ends x answer 0 (S .here .slots)) q [] [])) (sym (repeat-says l (S .here .slots) frame ms k))
+    (ends-sent s S (again l k ms) bytes frame q answer (omega arith) (omega (arith, formed .lengths j h .most, r .d-lo)) (inv-repeated s (restated S l q) j ms c r I h may))

@@ -20,7 +20,7 @@ use Rattle.state.proofs.Keeps.{changed, fresh-sound}
 use Rattle.base.specs.Buffer.{put}
 use Rattle.send.specs.Repeat.{partOf, packetOf}
 use Rattle.send.specs.Submit.{sentFirst}
-use Rattle.send.proofs.Slots.{new-packet, old-packet}
+use Rattle.send.proofs.Slots.{new-packet, old-packet, accepted-waits}
 use Rattle.receive.proofs.Keeps.{freed-sound, afterDelivery-sound}
 use Rattle.receive.specs.Steps.{freed, afterDelivery}
 use Rattle.pair.specs.System.{Side, System, swap, Harm, freshSide, IsClock}
@@ -300,7 +300,7 @@ added-holds s x t b g packet ms w hi place f lo lt = go (eqb f n) refl
         let slot : slotOf l (l .next) < length (l .lengths) = omega (arith, slotOf-lt l (l .next) (formed .settings .window-lo), formed .settings .window-hi, w .sound .lengths) in
         let part : partOf l (l .next) ≤ length (x .slots) =
         omega (arith, part-inside (slotOf l (l .next)) (l .settings .window) (limitOf (l .settings)) 0 (length (x .slots)) (slotOf-lt l (l .next) (formed .settings .window-lo)) (omega arith) slots-room) in
-        rw (number) (new-packet l (x .slots) packet ms slot part)
+        rw (number) (new-packet l (x .slots) [] packet ms slot part)
         ∙ sym (ap (λ (k : ℕ). getD (x .takenIn ++ (packet ∷ [])) k []) at ∙ getD-end (x .takenIn) packet)
     go false e =
         let longer : length (x .takenIn ++ (packet ∷ [])) ≡ n + 1 = length-append (x .takenIn) (packet ∷ []) in
@@ -337,7 +337,7 @@ inv-added s S packet frame ms I c k lo hi place same m p =
         settings = I .here .settings;
         room = rw same (I .here .room);
         next = rw longer (omega (arith, I .here .next));
-        window = rw longer (omega (arith, I .here .window));
+        window = rw longer (omega (arith, I .here .window, accepted-waits (S .here .state) (S .here .slots) [] packet ms));
         expected = I .here .expected;
         count = I .here .count;
         first = I .here .first;
