@@ -307,7 +307,7 @@ a-round s S ms c r I =
     record {
       end = swap (b .end);
       passed = t .passed;
-      turn = round (k .end) (a .end) (swap (b .end)) (t .passed) (k .carries) (k .noHere) (k .noThere) (t .passes) (a .looks-so) (b .looks-so);
+      turn = round S (k .end) (a .end) (swap (b .end)) (t .passed) (k .carries) (k .noHere) (k .noThere) (t .passes) (a .looks-so) (b .looks-so);
       inv = inv-swap s (b .end) (b .inv);
     }
 

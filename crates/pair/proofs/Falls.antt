@@ -34,7 +34,7 @@ use Rattle.receive.proofs.Facts.{data-taken}
 use Rattle.clock.specs.Look.{lookedAt, looked}
 use Rattle.pair.specs.System.{System, swap, deliveredBy, takes, lookOf, looks, IsClock, Moment}
 use Rattle.state.specs.Timer.{onward}
-use Rattle.pair.specs.Round.{Enough, Carried, head, Carries, none, here, there, runs, dueAt, someRuns, someDue, Passes, stays, first, Looks, nothing, sends-on, Round, round, Rounds, begin, next}
+use Rattle.pair.specs.Round.{Enough, Carried, head, Carries, none, here, there, runs, dueAt, someRuns, someDue, Passes, stays, first, Looks, nothing, sends-on, Round, round, other-first, Rounds, begin, next}
 use Rattle.pair.specs.Demand3.{Through, Alive, WithinRounds, Within24}
 use Rattle.pair.proofs.Line.{Line, data-next, ack-next, idle-next, Idle, by-size, by-sum, a-nak, line-taken, line-freed}
 use Rattle.pair.proofs.Invariant.{Inv, inv-swap, window-small}
@@ -268,6 +268,14 @@ pub record Turned (s : Settings) (S T : System) (passed : ℕ) : Type 0 where
   pub falls : Falls s S T
   pub either : Alive T → ((passed ≡ 0) × Empty T) ⊎ (Φ T + 1 ≤ Φ S)
 
+turned-swap : (s : Settings) (S T : System) (passed : ℕ) → Turned s (swap S) (swap T) passed → Turned s S T passed
+turned-swap s S T passed k =
+    record { falls = falls-swap s S T (k .falls); either = λ alive. go (k .either (record { here = alive .there; there = alive .here })) }
+  where
+    go : ((passed ≡ 0) × Empty (swap T)) ⊎ (Φ (swap T) + 1 ≤ Φ (swap S)) → ((passed ≡ 0) × Empty T) ⊎ (Φ T + 1 ≤ Φ S)
+    go (inl e) = inl (e .0, record { here = e .1 .there; there = e .1 .here })
+    go (inr m) = inr (omega arith)
+
 passes-cases : (S : System) (ms passed : ℕ) → Passes S ms passed → ((passed ≡ 0) × (someRuns S ≡ false)) ⊎ (someDue S (onward ms passed) ≡ true)
 passes-cases S ms passed (stays e) = inl (refl, e)
 passes-cases S ms passed (first passed₁ e k) = inr e
@@ -276,7 +284,8 @@ pub onward-clock : (ms passed : ℕ) → IsClock (onward ms passed)
 onward-clock ms passed = omega arith
 
 pub round-turns : (s : Settings) (S T : System) (ms passed : ℕ) → IsClock ms → InRange s → Inv s S → Round ms S passed T → Turned s S T passed
-round-turns s S W ms passed c r I (round T U W₁ passed₁ carries noHere noThere p looksHere looksThere) =
+round-turns s S W ms passed c r I (other-first S₁ W₁ passed₁ k) = turned-swap s S W passed (round-turns s (swap S) (swap W) ms passed c r (inv-swap s S I) k)
+round-turns s S W ms passed c r I (round S₁ T U W₁ passed₁ carries noHere noThere p looksHere looksThere) =
     record { falls = all; either = λ alive. go alive (passes-cases T ms passed p) }
   where
     c₁ : IsClock (onward ms passed)

@@ -14,10 +14,10 @@ use Rattle.state.specs.State.{sentBefore, startOf}
 use Rattle.state.specs.Timer.{due, onward}
 use Rattle.state.specs.Formed.{InRange}
 use Rattle.clock.specs.Look.{packetDue, acknowledgeDue}
-use Rattle.pair.specs.System.{System, IsClock}
-use Rattle.pair.specs.Round.{runs, dueAt, someRuns, someDue, Passes, stays, first, Round, round, Rounds, begin, next}
+use Rattle.pair.specs.System.{System, swap, IsClock}
+use Rattle.pair.specs.Round.{runs, dueAt, someRuns, someDue, Passes, stays, first, Round, round, other-first, Rounds, begin, next}
 use Rattle.pair.specs.Demand3.{Alive, InMilliseconds}
-use Rattle.pair.proofs.Invariant.{Inv}
+use Rattle.pair.proofs.Invariant.{Inv, inv-swap}
 use Rattle.pair.proofs.Moves.{moment-range, moment-kept}
 use Rattle.pair.proofs.Timers.{Soon, some-soon}
 use Rattle.pair.proofs.Falls.{Falls, Empty, Turned, Φ, Φ-bound, carries-falls, round-turns, rounds-fall, alive-before, onward-clock}
@@ -67,7 +67,8 @@ passes-short s S ms passed r I c (first passed₁ e k) =
     go w false q = omega (arith, ltb-false (w .after) passed q, w .within)
 
 round-short : (s : Settings) (S T : System) (ms passed : ℕ) → IsClock ms → InRange s → Inv s S → Round ms S passed T → passed ≤ s .transmit
-round-short s S W ms passed c r I (round T U W₁ passed₁ carries noHere noThere p looksHere looksThere) =
+round-short s S W ms passed c r I (other-first S₁ W₁ passed₁ k) = round-short s (swap S) (swap W) ms passed c r (inv-swap s S I) k
+round-short s S W ms passed c r I (round S₁ T U W₁ passed₁ carries noHere noThere p looksHere looksThere) =
     passes-short s T ms passed r (carries-falls s S T ms c r I carries .inv) c p
 
 -- each move of the clock is paid for by the measure

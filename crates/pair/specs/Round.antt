@@ -55,10 +55,11 @@ pub data Looks (ms : ℕ) : System → System → Type 0 where
 
 -- ---- rounds
 
--- one round from a clock on, and by how many milliseconds it moves the clock
-pub data Round (ms : ℕ) (S : System) : ℕ → System → Type 0 where
-  round : (T U W : System) (passed : ℕ) → Carries ms S T → T .here .queue ≡ [] → T .there .queue ≡ [] → Passes T ms passed
+-- one round from a clock on, and by how many milliseconds it moves the clock; either end may be the first to be looked at
+pub data Round (ms : ℕ) : System → ℕ → System → Type 0 where
+  round : (S T U W : System) (passed : ℕ) → Carries ms S T → T .here .queue ≡ [] → T .there .queue ≡ [] → Passes T ms passed
       → Looks (onward ms passed) T U → Looks (onward ms passed) (swap U) (swap W) → Round ms S passed W
+  other-first : (S W : System) (passed : ℕ) → Round ms (swap S) passed (swap W) → Round ms S passed W
 
 -- so many rounds, and by how many milliseconds they move the clock in all
 pub data Rounds (ms : ℕ) (S : System) : ℕ → ℕ → System → Type 0 where
