@@ -31,8 +31,8 @@ use Rattle.receive.specs.Take.{obeyed, taken, dataTaken}
 use Rattle.receive.proofs.Facts.{data-taken}
 use Rattle.pair.specs.System.{System, swap, sentBy, leftBy, takes, lookOf, looks, IsClock}
 use Rattle.state.specs.Timer.{onward}
-use Rattle.pair.specs.Round.{Enough, dueAt, Carried, head, Carries, none, here, there, Looks, nothing, sends-on, Round, round, Rounds, begin, next}
-use Rattle.pair.specs.Demand3.{RoundsExist}
+use Rattle.pair.specs.Round.{Enough, dueAt, Carried, head, Carries, none, here, there, carriedIn, Looks, nothing, sends-on, Round, round, Rounds, begin, next}
+use Rattle.pair.specs.Demand3.{RoundsExist, CarryingEnds}
 use Rattle.pair.proofs.Line.{Line, data-next, ack-next, idle-next, Idle, by-size, by-sum, a-nak}
 use Rattle.pair.proofs.Invariant.{Inv, inv-swap}
 use Rattle.pair.proofs.Calls.{sent-frame, waiting-length, repeat-heard}
@@ -328,3 +328,41 @@ unfoldable pub rounds-exist : RoundsExist
 rounds-exist s S ms n m c =
     let k : Led s ms S n = led s S ms n c (moment-range s S m) (moment-kept s S m) in
     record { end = k .end; total = k .total; rounds = k .rounds }
+
+-- ---- carrying ends in every mixture
+
+pub cost-most : (h : Heard) → cost h ≤ 4
+cost-most (Ack k) = omega arith
+cost-most (Data number nak k len) = omega arith
+cost-most (Nak k) = omega arith
+cost-most Size = omega arith
+cost-most Sum = omega arith
+cost-most Code = omega arith
+cost-most ControlSize = omega arith
+cost-most Length = omega arith
+cost-most Reset = omega arith
+
+pub load-most : (d : ℕ) (q : List (List ℕ)) → load d q ≤ 4 * length q
+load-most d [] = omega arith
+load-most d (x ∷ q) = omega (arith, cost-most (heard d x), load-most d q)
+
+pub carried-less : (s : Settings) (S T : System) (ms : ℕ) → InRange s → Inv s S → Carried ms S T
+    → load (s .d) (T .here .queue) + load (s .d) (T .there .queue) + 1 ≤ load (s .d) (S .here .queue) + load (s .d) (S .there .queue)
+carried-less s S T ms r I (head frame received rest room e) =
+    let a : After Outcome = taken (S .here .state) (S .here .slots) frame ms received in
+    let u : Used (s .d) (heard (s .d) received) a = used-take s S frame received rest ms r I room e in
+    let left : leftBy a received rest ≡ rest = rw (u .gone) in
+    omega (arith, u .less, ap (load (s .d)) left, ap (load (s .d)) e, load-append (s .d) (S .there .queue) (sentBy a))
+
+pub carries-load : (s : Settings) (S T : System) (ms : ℕ) → IsClock ms → InRange s → Inv s S → (k : Carries ms S T)
+    → carriedIn k + (load (s .d) (T .here .queue) + load (s .d) (T .there .queue)) ≤ load (s .d) (S .here .queue) + load (s .d) (S .there .queue)
+carries-load s S T ms c r I (none S₁) = omega arith
+carries-load s S U ms c r I (here S₁ T U₁ k rest) =
+    omega (arith, carried-less s S T ms r I k, carries-load s T U ms c r (carried-falls s S T ms c r I k .inv) rest)
+carries-load s S U ms c r I (there S₁ T U₁ k rest) =
+    let J : Inv s (swap S) = inv-swap s S I in
+    omega (arith, carried-less s (swap S) (swap T) ms r J k, carries-load s T U ms c r (inv-swap s (swap T) (carried-falls s (swap S) (swap T) ms c r J k .inv)) rest)
+
+pub carrying-ends : CarryingEnds
+carrying-ends s S T ms m c k =
+    omega (arith, carries-load s S T ms c (moment-range s S m) (moment-kept s S m) k, load-most (s .d) (S .here .queue), load-most (s .d) (S .there .queue))

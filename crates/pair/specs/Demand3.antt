@@ -1,12 +1,12 @@
--- Demand 3, in four statements. The first holds past a lost link too.
-use Prim.Native.Nat.{ℕ, _*_, _≤_}
+-- Demand 3, in five statements. The first holds past a lost link too.
+use Prim.Native.Nat.{ℕ, _+_, _*_, _≤_}
 use mathlib.Core.Bool.{false}
 use mathlib.Core.List.{List}
 use mathlib.Core.Path.{_≡_}
 use lib.ListN.{length, take}
 use Rattle.state.specs.declared.Settings.{Settings}
 use Rattle.pair.specs.System.{System, IsClock, Moment}
-use Rattle.pair.specs.Round.{Rounds}
+use Rattle.pair.specs.Round.{Carries, carriedIn, Rounds}
 
 -- "the packets delivered each way are at every moment the first so many of those taken: same bytes, same order, each once"
 abbrev pub FirstOf : List (List ℕ) → List (List ℕ) → Type 0
@@ -46,6 +46,12 @@ pub record Played (ms : ℕ) (S : System) (n : ℕ) : Type 0 where
 
 abbrev pub RoundsExist : Type 0
 RoundsExist = (s : Settings) (S : System) (ms n : ℕ) → Moment s S → IsClock ms → Played ms S n
+
+-- and carrying ends in every mixture: each frame that is on its way costs at most four that are carried
+abbrev pub CarryingEnds : Type 0
+CarryingEnds =
+    (s : Settings) (S T : System) (ms : ℕ) → Moment s S → IsClock ms → (carries : Carries ms S T)
+    → carriedIn carries ≤ 4 * (length (S .here .queue) + length (S .there .queue))
 
 -- in milliseconds: however many rounds are played, the clock moves by at most 22 × TRANS_TIMEOUT, while no link is declared lost
 abbrev pub InMilliseconds : Type 0

@@ -26,6 +26,12 @@ pub data Carries (ms : ℕ) : System → System → Type 0 where
   here : (S T U : System) → Carried ms S T → Carries ms T U → Carries ms S U
   there : (S T U : System) → Carried ms (swap S) (swap T) → Carries ms T U → Carries ms S U
 
+-- how many frames were carried
+abbrev pub carriedIn : {ms : ℕ} {S T : System} → Carries ms S T → ℕ
+carriedIn (none S) = 0
+carriedIn (here S T U k rest) = suc (carriedIn rest)
+carriedIn (there S T U k rest) = suc (carriedIn rest)
+
 -- ---- the clock
 
 -- a packet's timer runs while it waits
