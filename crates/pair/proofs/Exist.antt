@@ -24,10 +24,10 @@ use Rattle.state.specs.Gate.{After, gated, entryOf, gateOf}
 use Rattle.state.specs.Formed.{InRange, Formed, Sound}
 use Rattle.state.proofs.Facts.{wellFormed-facts}
 use Rattle.send.specs.Repeat.{packetOf, mayRepeat}
-use Rattle.send.specs.Makers.{silent, ends, sends, quiet, marked, sendsAck, sendsRepeat, sendsNak}
+use Rattle.send.specs.Makers.{silent, ends, sends, quiet, marked, sendsRepeat, sendsNak}
 use Rattle.send.proofs.Facts.{behind-sentBefore}
 use Rattle.receive.specs.Steps.{freed, repeatable, afterDelivery}
-use Rattle.receive.specs.Take.{obeyed, taken, dataTaken}
+use Rattle.receive.specs.Take.{obeyed, taken}
 use Rattle.receive.proofs.Facts.{data-taken}
 use Rattle.pair.specs.System.{System, swap, sentBy, leftBy, takes, lookOf, looks, IsClock}
 use Rattle.state.specs.Timer.{onward}

@@ -9,7 +9,7 @@ use borrow.Author.Tests.{ltb-true, ltb-false, ne-eqb, eq-eqb}
 use lib.ListN.{length, length-append}
 use lib.Seq.{take-all}
 use lib.Dec.{eqb, ltb}
-use Rattle.base.specs.Answer.{done, unexpected}
+use Rattle.base.specs.Answer.{done}
 use Rattle.base.proofs.Tests.{and-left, and-right, or-left-false, or-right-false}
 use Rattle.frame.specs.declared.Heard.{Heard}
 use Rattle.frame.specs.declared.Heard.the-variants.{Size, Sum, Ack, Nak, Data}
@@ -26,13 +26,13 @@ use Rattle.state.specs.Formed.{InRange, Formed, Sound}
 use Rattle.state.proofs.Facts.{wellFormed-facts, gateOf-facts}
 use Rattle.state.proofs.Keeps.{sound-open}
 use Rattle.send.specs.Repeat.{mayRepeat}
-use Rattle.send.specs.Makers.{silent, ends, sends, marked, sendsAck, sendsRepeat}
+use Rattle.send.specs.Makers.{silent, ends, sends, marked, sendsRepeat}
 use Rattle.send.proofs.Facts.{behind-sentBefore}
-use Rattle.receive.specs.Steps.{freed, repeatable, afterDelivery}
-use Rattle.receive.specs.Take.{obeyed, taken, dataTaken}
+use Rattle.receive.specs.Steps.{repeatable}
+use Rattle.receive.specs.Take.{obeyed, taken}
 use Rattle.receive.proofs.Facts.{data-taken}
 use Rattle.clock.specs.Look.{lookedAt, looked}
-use Rattle.pair.specs.System.{System, swap, deliveredBy, takes, lookOf, looks, IsClock, Moment}
+use Rattle.pair.specs.System.{System, swap, deliveredBy, takes, lookOf, looks, IsClock}
 use Rattle.state.specs.Timer.{onward}
 use Rattle.pair.specs.Round.{Enough, Carried, head, Carries, none, here, there, runs, dueAt, someRuns, someDue, Passes, stays, first, Looks, nothing, sends-on, Round, round, other-first, Rounds, begin, next}
 use Rattle.pair.specs.Demand3.{Through, Alive, WithinRounds, Within24}

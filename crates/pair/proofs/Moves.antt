@@ -4,7 +4,7 @@ use mathlib.Core.Bool.{Bool, true, false, cond}
 use mathlib.Core.List.{List, [], _∷_, append-nil}
 use Prim.Native.Nat.{ℕ, suc, _%_, _+_, _*_, _≤_, _<_, max}
 use native.Mathlib.Omega.{arith}
-use borrow.Author.Tests.{ltb-true, eqb-true, ne-eqb}
+use borrow.Author.Tests.{ltb-true, ne-eqb}
 use lib.ListN.{length, getD}
 use lib.Dec.{eqb, ltb}
 use Rattle.base.specs.Answer.{done, shortBuffer, linkLost, unexpected}

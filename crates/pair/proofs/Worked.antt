@@ -1,9 +1,7 @@
 -- The run of specs/Run.antt, computed. Assumes nothing.
-use mathlib.Core.Path.{_≡_, refl}
-use mathlib.Core.Bool.{true}
-use mathlib.Core.List.{List, [], _∷_}
+use mathlib.Core.Path.{refl}
+use mathlib.Core.List.{[], _∷_}
 use mathlib.Core.Logic.{inl}
-use Prim.Native.Nat.{ℕ}
 use native.Mathlib.Omega.{arith}
 use Rattle.base.specs.Buffer.{put}
 use Rattle.fcs.specs.Checksum.{checksumOf}
@@ -13,7 +11,7 @@ use Rattle.state.specs.State.{freshOf}
 use Rattle.send.specs.Submit.{submitted}
 use Rattle.receive.specs.Take.{taken}
 use Rattle.clock.specs.Look.{looked}
-use Rattle.pair.specs.System.{System, Harm, lost, damaged, Move, submit, take-head, harm, Moment, start, here, there}
+use Rattle.pair.specs.System.{lost, damaged, submit, take-head, harm, Moment, start, here, there}
 use Rattle.pair.proofs.Timers.{moved, some-soon, end-soon, least, search-from}
 use Rattle.pair.proofs.Exist.{rounds-exist, led, a-round, emptied, stepped, watched, blank}
 use Rattle.pair.specs.Run.{settings, buffer, slots, loanA, loanB, moment0, moment1, moment2, moment3, moment4, moment5, moment6, WorkedRun}

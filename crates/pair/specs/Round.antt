@@ -1,7 +1,7 @@
 -- Document 01, "Sending": "A timer round, with one clock for both ends and every lent buffer long enough: carry frames, the two queues in any
 -- mixture, until both are empty; if no timer is due, move the clock to the first moment one is (if none runs, it stays); then look at the
 -- clock at each end until it sends nothing."
-use Prim.Native.Nat.{ℕ, suc, _+_, _%_, _<_, _≤_}
+use Prim.Native.Nat.{ℕ, suc, _+_, _<_, _≤_}
 use mathlib.Core.Bool.{Bool, true, false, _||_}
 use mathlib.Core.List.{List, [], _∷_}
 use mathlib.Core.Path.{_≡_}

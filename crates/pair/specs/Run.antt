@@ -2,7 +2,7 @@
 use Prim.Native.Nat.{ℕ}
 use mathlib.Core.List.{List, [], _∷_}
 use mathlib.Core.Path.{_≡_}
-use Rattle.frame.specs.Bytes.{ackFrame, nakFrame, dataFrame}
+use Rattle.frame.specs.Bytes.{nakFrame, dataFrame}
 use Rattle.state.specs.declared.Settings.{Settings}
 use Rattle.pair.specs.System.{System, swap, submits, takes, withQueue, freshSide, Moment}
 use Rattle.pair.specs.Demand3.{Played}
