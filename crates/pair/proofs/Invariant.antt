@@ -23,7 +23,7 @@ use Rattle.send.specs.Submit.{sentFirst}
 use Rattle.send.proofs.Slots.{new-packet, old-packet, accepted-waits}
 use Rattle.receive.proofs.Keeps.{freed-sound, afterDelivery-sound}
 use Rattle.receive.specs.Steps.{freed, afterDelivery}
-use Rattle.pair.specs.System.{Side, System, swap, Harm, freshSide, IsClock}
+use Rattle.pair.specs.System.{queued, Side, System, swap, Harm, freshSide, IsClock}
 use Rattle.pair.proofs.Line.{Line, clear, line-taken, line-freed, line-mono, line-tail, line-harm, line-data, line-more}
 
 -- the start times are clock values
@@ -86,7 +86,7 @@ turned S l queue sent = record {
   there = record {
     state = S .there .state;
     slots = S .there .slots;
-    queue = S .there .queue ++ sent;
+    queue = queued (S .there .queue) sent;
     takenIn = S .there .takenIn;
     delivered = S .there .delivered;
   };
@@ -154,7 +154,7 @@ restated S l queue = record {
 pub inv-turned : (s : Settings) (S : System) (starts counts : List ℕ) (ackstart : ℕ) (acking naked lost : Bool) (sent : List (List ℕ)) (I : Inv s S)
     → Sound (changed (S .here .state) starts counts ackstart (S .here .state .expected) (S .here .state .waiting) acking naked lost)
     → Timed (changed (S .here .state) starts counts ackstart (S .here .state .expected) (S .here .state .waiting) acking naked lost)
-    → Line (s .d) (S .here .takenIn) (I .gotThere) (I .freedThere) (I .gotHere) (S .there .queue ++ sent)
+    → Line (s .d) (S .here .takenIn) (I .gotThere) (I .freedThere) (I .gotHere) (queued (S .there .queue) sent)
     → Inv s (turned S (changed (S .here .state) starts counts ackstart (S .here .state .expected) (S .here .state .waiting) acking naked lost) (S .here .queue) sent)
 inv-turned s S starts counts ackstart acking naked lost sent I k c w = record {
   freedHere = I .freedHere;
@@ -163,7 +163,7 @@ inv-turned s S starts counts ackstart acking naked lost sent I k c w = record {
   gotThere = I .gotThere;
   here = way-changed s (S .here) (S .there .takenIn) (I .freedHere) (I .gotHere) starts counts ackstart acking naked lost (S .here .queue) (I .here) k
       c;
-  there = way-there s (S .there) (S .here .takenIn) (I .freedThere) (I .gotThere) (S .there .queue ++ sent) (I .there);
+  there = way-there s (S .there) (S .here .takenIn) (I .freedThere) (I .gotThere) (queued (S .there .queue) sent) (I .there);
   toHere = I .toHere;
   toThere = w;
 }
@@ -256,7 +256,7 @@ adding S l slots packet sent = record {
   there = record {
     state = S .there .state;
     slots = S .there .slots;
-    queue = S .there .queue ++ sent;
+    queue = queued (S .there .queue) sent;
     takenIn = S .there .takenIn;
     delivered = S .there .delivered;
   };

@@ -58,6 +58,10 @@ takenBy a packet = cond (eqb (a .told .answer) done) (packet ∷ []) []
 abbrev pub leftBy : After Outcome → List ℕ → List (List ℕ) → List (List ℕ)
 leftBy a received rest = cond (eqb (a .told .answer) shortBuffer) (received ∷ rest) rest
 
+-- "keeps order": what is sent goes behind what is on its way
+abbrev pub queued : List (List ℕ) → List (List ℕ) → List (List ℕ)
+queued queue sent = queue ++ sent
+
 -- "each call gets the state the last one left and the same slots, in which only the link writes": the system after the call, with its queue
 -- and with what it took and delivered
 abbrev pub called : System → After Outcome → List (List ℕ) → List (List ℕ) → List (List ℕ) → System
@@ -72,7 +76,7 @@ called S a queue takenIn delivered = record {
   there = record {
     state = S .there .state;
     slots = S .there .slots;
-    queue = S .there .queue ++ sentBy a;
+    queue = queued (S .there .queue) (sentBy a);
     takenIn = S .there .takenIn;
     delivered = S .there .delivered;
   };
