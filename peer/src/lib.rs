@@ -9,6 +9,7 @@ pub mod bus;
 pub mod chain;
 pub mod checksum;
 pub mod count;
+pub mod examples;
 pub mod frame;
 pub mod generate;
 pub mod link;

@@ -1,4 +1,5 @@
-//! `peer`: replay, generate and count scripts of the rig; search for breaks of demand 3.
+//! `peer`: replay, generate and count scripts of the rig; compute worked examples; search for
+//! breaks of demand 3.
 
 #![forbid(unsafe_code)]
 
@@ -7,9 +8,10 @@ use std::ffi::OsString;
 use std::io::{self, BufReader, BufWriter, Write};
 use std::process::ExitCode;
 
-use peer::{count, generate, rounds, script};
+use peer::{count, examples, generate, rounds, script};
 
-const USAGE: &str = "usage: peer replay | generate SEED CALLS | count | rounds SEED HISTORIES";
+const USAGE: &str =
+    "usage: peer replay | examples | generate SEED CALLS | count | rounds SEED HISTORIES";
 
 const BUFFER: usize = 1 << 16;
 
@@ -18,6 +20,7 @@ fn main() -> ExitCode {
     let words: Option<Vec<&str>> = arguments.iter().map(|word| word.to_str()).collect();
     let done = match words.as_deref() {
         Some(["replay"]) => replay(),
+        Some(["examples"]) => work_examples(),
         Some(["count"]) => count_answers(),
         Some(["generate", seed, calls]) => match (seed.parse(), calls.parse()) {
             (Ok(seed), Ok(calls)) => generate_script(seed, calls),
@@ -59,6 +62,11 @@ fn output() -> impl Write {
 
 fn replay() -> io::Result<bool> {
     script::replay(input(), &mut output())?;
+    Ok(true)
+}
+
+fn work_examples() -> io::Result<bool> {
+    examples::examples(input(), &mut output())?;
     Ok(true)
 }
 

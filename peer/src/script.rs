@@ -5,9 +5,11 @@ mod lines;
 mod print;
 mod rig;
 
+pub(crate) use command::Fields;
 pub use command::{parse, write, Command};
 pub use lines::{Line, Lines, LINE_LIMIT};
 pub use print::print;
+pub(crate) use print::{hex, numbers};
 pub use rig::{Rig, Said};
 
 use std::io::{self, BufRead, Write};

@@ -30,6 +30,7 @@ fn wrong_usage() {
         &[][..],
         &["play"],
         &["replay", "now"],
+        &["examples", "now"],
         &["generate"],
         &["generate", "1"],
         &["generate", "1", "x"],
@@ -53,6 +54,17 @@ fn replay_prints_and_is_quiet_otherwise() {
     let packet = format!("0 2 1 0001{}\nbad line 2\n", "DD".repeat(9));
     assert_eq!(text(&output.stdout), packet);
     assert_eq!(text(&output.stderr), "");
+}
+
+#[test]
+fn examples_print_what_is_right() {
+    let right = "# example 1\nchecksum 313233343536373839 -> 2189\n";
+    for given in [right, "# example 1\nchecksum 313233343536373839 -> 8921\n"] {
+        let output = peer(&["examples"], given.as_bytes());
+        assert_eq!(output.status.code(), Some(0));
+        assert_eq!(text(&output.stdout), right);
+        assert_eq!(text(&output.stderr), "");
+    }
 }
 
 #[test]

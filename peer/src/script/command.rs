@@ -67,7 +67,7 @@ impl Command<'_> {
 
 /// None for a bad line. The byte field, if any, is left in the scratch buffer.
 pub fn parse<'a>(line: &[u8], scratch: &'a mut Vec<u8>) -> Option<Command<'a>> {
-    let mut fields = Fields { rest: Some(line) };
+    let mut fields = Fields::of(line);
     let command = match fields.next()? {
         b"lend" => Command::Lend {
             slots: fields.u16_to(LEND_LIMIT)?,
@@ -118,12 +118,16 @@ fn parse_call<'a>(
 
 /// Fields are apart by exactly one space, so a second, leading or trailing space
 /// makes an empty field, which is neither a word nor a number nor bytes.
-struct Fields<'l> {
+pub(crate) struct Fields<'l> {
     rest: Option<&'l [u8]>,
 }
 
 impl<'l> Fields<'l> {
-    fn next(&mut self) -> Option<&'l [u8]> {
+    pub(crate) fn of(line: &'l [u8]) -> Fields<'l> {
+        Fields { rest: Some(line) }
+    }
+
+    pub(crate) fn next(&mut self) -> Option<&'l [u8]> {
         let rest = self.rest?;
         let Some(space) = rest.iter().position(|&byte| byte == b' ') else {
             self.rest = None;
@@ -133,7 +137,7 @@ impl<'l> Fields<'l> {
         rest.get(..space)
     }
 
-    fn end(&self) -> Option<()> {
+    pub(crate) fn end(&self) -> Option<()> {
         self.rest.is_none().then_some(())
     }
 
@@ -161,7 +165,7 @@ impl<'l> Fields<'l> {
         self.number(most)?.try_into().ok()
     }
 
-    fn u16(&mut self) -> Option<u16> {
+    pub(crate) fn u16(&mut self) -> Option<u16> {
         self.u16_to(u32::from(u16::MAX))
     }
 
@@ -206,7 +210,7 @@ impl<'l> Fields<'l> {
         })
     }
 
-    fn bytes<'a>(&mut self, scratch: &'a mut Vec<u8>) -> Option<&'a [u8]> {
+    pub(crate) fn bytes<'a>(&mut self, scratch: &'a mut Vec<u8>) -> Option<&'a [u8]> {
         let digits = self.next()?;
         scratch.clear();
         if digits == b"-" {

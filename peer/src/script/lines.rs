@@ -14,6 +14,7 @@ pub enum Line<'a> {
 pub struct Lines<R> {
     input: R,
     text: Vec<u8>,
+    ended: bool,
 }
 
 impl<R: BufRead> Lines<R> {
@@ -21,6 +22,7 @@ impl<R: BufRead> Lines<R> {
         Lines {
             input,
             text: Vec::with_capacity(LINE_LIMIT),
+            ended: false,
         }
     }
 
@@ -28,6 +30,7 @@ impl<R: BufRead> Lines<R> {
     #[allow(clippy::should_implement_trait)]
     pub fn next(&mut self) -> io::Result<Option<Line<'_>>> {
         self.text.clear();
+        self.ended = false;
         let mut over_long = false;
         let mut any = false;
         loop {
@@ -49,6 +52,7 @@ impl<R: BufRead> Lines<R> {
             let used = part.len() + usize::from(end.is_some());
             self.input.consume(used);
             if end.is_some() {
+                self.ended = true;
                 break;
             }
         }
@@ -57,5 +61,10 @@ impl<R: BufRead> Lines<R> {
             (true, true) => Some(Line::OverLong),
             (true, false) => Some(Line::Whole(&self.text)),
         })
+    }
+
+    /// Whether the line told last had its LF.
+    pub fn ended(&self) -> bool {
+        self.ended
     }
 }

@@ -66,7 +66,7 @@ fn cut_line(rig: &Rig, piece: &Piece, out: &mut Vec<u8>) {
 }
 
 /// Numbers apart by one space.
-pub(super) fn numbers(values: &[u32], out: &mut Vec<u8>) {
+pub(crate) fn numbers(values: &[u32], out: &mut Vec<u8>) {
     for (place, &value) in values.iter().enumerate() {
         if place > 0 {
             out.push(b' ');
@@ -95,7 +95,7 @@ fn number(mut value: u32, out: &mut Vec<u8>) {
 }
 
 /// Upper case, `-` for none.
-pub(super) fn hex(bytes: &[u8], out: &mut Vec<u8>) {
+pub(crate) fn hex(bytes: &[u8], out: &mut Vec<u8>) {
     if bytes.is_empty() {
         out.push(b'-');
         return;

@@ -1,0 +1,199 @@
+//! Worked examples: each line an input, then ` -> `, then what it gives. What stands behind
+//! the arrow is computed, never read, so a text is printed again exactly when it is right.
+
+use std::io::{self, BufRead, Write};
+
+use crate::answer;
+use crate::chain::{Joined, Piece};
+use crate::checksum::checksum;
+use crate::frame::{hear, Heard};
+use crate::link::Outcome;
+use crate::script::{hex, numbers, parse, Command, Fields, Line, Lines, Rig, Said};
+
+const ARROW: &[u8] = b" -> ";
+
+/// Where the packet begins in a received frame.
+const PACKET_BEGIN: usize = 3;
+
+/// What a line asks for, read from its left side alone.
+#[derive(Debug, PartialEq, Eq)]
+enum Left<'a> {
+    Checksum(&'a [u8]),
+    Hear { data_reg_len: u16, frame: &'a [u8] },
+    Script(Command<'a>),
+}
+
+impl Left<'_> {
+    /// Whether the line only prepares a call; such a line has no arrow.
+    fn prepares(&self) -> bool {
+        matches!(self, Left::Script(command) if command.call().is_none())
+    }
+}
+
+/// Reads examples and prints them with the right sides that are computed here. A last line
+/// without LF is printed without one.
+pub fn examples<R: BufRead, W: Write>(input: R, output: &mut W) -> io::Result<()> {
+    let mut lines = Lines::new(input);
+    let mut rig = Rig::default();
+    let mut scratch = Vec::new();
+    let mut text = Vec::new();
+    let mut number: u64 = 0;
+    while let Some(line) = lines.next()? {
+        number = number.saturating_add(1);
+        text.clear();
+        if work(&line, &mut rig, &mut scratch, &mut text).is_none() {
+            write!(text, "bad line {number}")?;
+        }
+        if lines.ended() {
+            text.push(b'\n');
+        }
+        output.write_all(&text)?;
+    }
+    output.flush()
+}
+
+/// Adds one line as it should be. None for a bad line, which adds and changes nothing.
+fn work(line: &Line<'_>, rig: &mut Rig, scratch: &mut Vec<u8>, out: &mut Vec<u8>) -> Option<()> {
+    let line = match line {
+        Line::Whole(text @ ([] | [b'#', ..])) => {
+            out.extend_from_slice(text);
+            return Some(());
+        }
+        Line::Whole(text) => text,
+        Line::OverLong => return None,
+    };
+    let (left, arrow) = left_side(line);
+    let asked = read_left(left, scratch)?;
+    let prepares = asked.prepares();
+    if prepares && arrow {
+        return None;
+    }
+    out.extend_from_slice(left);
+    if !prepares {
+        out.extend_from_slice(ARROW);
+    }
+    right_side(&asked, rig, out);
+    Some(())
+}
+
+/// What stands before the first arrow, and whether there is one.
+fn left_side(line: &[u8]) -> (&[u8], bool) {
+    let arrow = line.windows(ARROW.len()).position(|part| part == ARROW);
+    match arrow.and_then(|place| line.get(..place)) {
+        Some(left) => (left, true),
+        None => (line, false),
+    }
+}
+
+/// None for a bad line. The byte field, if any, is left in the scratch buffer.
+fn read_left<'a>(left: &[u8], scratch: &'a mut Vec<u8>) -> Option<Left<'a>> {
+    let mut fields = Fields::of(left);
+    let asked = match fields.next()? {
+        b"checksum" => Left::Checksum(fields.bytes(scratch)?),
+        b"hear" => Left::Hear {
+            data_reg_len: fields.u16()?,
+            frame: fields.bytes(scratch)?,
+        },
+        _ => return parse(left, scratch).map(Left::Script),
+    };
+    fields.end()?;
+    Some(asked)
+}
+
+/// Nothing for lines that only prepare a call, but they are obeyed.
+fn right_side(asked: &Left<'_>, rig: &mut Rig, out: &mut Vec<u8>) {
+    match asked {
+        Left::Checksum(bytes) => hex(&checksum(bytes).to_be_bytes(), out),
+        Left::Hear {
+            data_reg_len,
+            frame,
+        } => heard_side(hear(frame, *data_reg_len), out),
+        Left::Script(command) => match rig.execute(command) {
+            Said::Nothing => {}
+            Said::Link(outcome) => link_side(rig, command, &outcome, out),
+            Said::Join(joined) => join_side(&joined, out),
+            Said::Cut(piece) => cut_side(rig, &piece, out),
+        },
+    }
+}
+
+/// NUMBER WORDS
+fn heard_side(heard: Heard, out: &mut Vec<u8>) {
+    numbers(&[refusal(heard).into()], out);
+    out.push(b' ');
+    out.extend_from_slice(words(heard).as_bytes());
+}
+
+/// The number that steps 1 to 4 refuse a frame with, 0 if they let it pass.
+fn refusal(heard: Heard) -> u8 {
+    match heard {
+        Heard::Size | Heard::Sum | Heard::Length => answer::DAMAGED,
+        Heard::Code => answer::UNUSED_CODE,
+        Heard::ControlSize => answer::CONTROL_SIZE,
+        Heard::Reset | Heard::Ack(_) | Heard::Nak(_) | Heard::Data(_) => answer::DONE,
+    }
+}
+
+fn words(heard: Heard) -> String {
+    match heard {
+        Heard::Size => "size".to_string(),
+        Heard::Sum => "checksum".to_string(),
+        Heard::Code => "code".to_string(),
+        Heard::ControlSize => "control".to_string(),
+        Heard::Length => "length".to_string(),
+        Heard::Reset => "reset".to_string(),
+        Heard::Ack(k) => format!("ack {k}"),
+        Heard::Nak(k) => format!("nak {k}"),
+        Heard::Data(data) => {
+            let told = if data.nak { "nak" } else { "ack" };
+            format!(
+                "data {} {told} {}, {} bytes",
+                data.number, data.k, data.length
+            )
+        }
+    }
+}
+
+/// ANSWER SENT DELIVERED DROPPED
+fn link_side(rig: &Rig, command: &Command<'_>, outcome: &Outcome, out: &mut Vec<u8>) {
+    numbers(&[outcome.answer.into()], out);
+    out.push(b' ');
+    hex(first(rig.frame(), outcome.sent), out);
+    out.push(b' ');
+    hex(first(packet_bytes(command), outcome.delivered), out);
+    out.push(b' ');
+    numbers(&[outcome.dropped.into()], out);
+}
+
+/// The bytes that a delivered packet is the beginning of; none for calls that deliver nothing.
+fn packet_bytes<'a>(command: &Command<'a>) -> &'a [u8] {
+    match *command {
+        Command::Take { frame, .. } => frame.get(PACKET_BEGIN..).unwrap_or_default(),
+        _ => &[],
+    }
+}
+
+/// ANSWER LENGTH FAULT OPEN JOINED
+fn join_side(joined: &Joined, out: &mut Vec<u8>) {
+    let told = [
+        joined.answer.into(),
+        joined.length.into(),
+        joined.fault.into(),
+        joined.joining.open.into(),
+        joined.joining.joined.into(),
+    ];
+    numbers(&told, out);
+}
+
+/// ANSWER LENGTH COUNT PACKET
+fn cut_side(rig: &Rig, piece: &Piece, out: &mut Vec<u8>) {
+    let told = [piece.answer.into(), piece.length.into(), piece.count.into()];
+    numbers(&told, out);
+    out.push(b' ');
+    hex(first(rig.packet(), piece.length), out);
+}
+
+/// No call tells more bytes than its buffer has.
+fn first(bytes: &[u8], length: u16) -> &[u8] {
+    bytes.get(..usize::from(length)).unwrap_or_default()
+}
