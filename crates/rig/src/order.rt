@@ -1,9 +1,8 @@
 // A line's command, and which fields each command has.
-use crate::buffers::Bytes;
-use crate::field;
-use crate::field::BYTES;
-use crate::field::Field;
-use crate::field::SPACE;
+use text::field;
+use text::field::BYTES;
+use text::field::Bytes;
+use text::field::Fields;
 
 pub enum Call {
     Start,
@@ -25,16 +24,9 @@ pub enum Command {
     Cut,
 }
 
-// The most fields that a command has.
-pub const FIELDS: usize = 18;
-
-// A field's number; of a byte field how many bytes; 0 of a field that is absent.
-pub type Values = [u64; FIELDS];
-
 pub struct Order {
-    pub values: Values,
+    pub fields: Fields,
     pub command: Command,
-    pub good: bool,
 }
 
 // ---- the fields' largest numbers
@@ -132,77 +124,41 @@ fn command_of(word: &[u8]) -> Command {
 
 // ---- fields
 
-// What a line of no command is.
-fn no_order() -> Order {
-    Order {
-        values: [0; FIELDS],
-        command: Command::Unknown,
+// What a line of no command has.
+fn no_fields() -> Fields {
+    Fields {
+        values: [0; field::FIELDS],
         good: false,
     }
 }
 
-// Field n of a command; there is none past the last that has a largest number.
-fn field_at(line: &[u8], at: usize, largest: &[u64], n: usize, bytes: &mut Bytes) -> Field {
-    if n < largest.len() {
-        return field::read(line, at, largest[n], bytes);
-    }
-    field::missing()
-}
-
-// The fields from `at` to the line's end, each up to its largest number. There may be fewer, but not under `least`.
-fn fields(
-    line: &[u8],
-    at: usize,
-    command: Command,
-    largest: &[u64],
-    least: usize,
-    bytes: &mut Bytes,
-) -> Order {
-    let mut values = [0u64; FIELDS];
-    let mut next = at;
-    let mut good = true;
-    let mut n: usize = 0;
-    while n < FIELDS && good && next < line.len() {
-        let f = field_at(line, next, largest, n, bytes);
-        values[n] = f.value;
-        next = f.end;
-        good = f.good;
-        n += 1;
-    }
-    Order {
-        values,
-        command,
-        good: good & (least <= n) & (next == line.len()),
-    }
-}
-
 // A setting or an input that is added later is one more at its command's end, and `least` stays as it is.
-fn call_fields(line: &[u8], at: usize, call: Call, bytes: &mut Bytes) -> Order {
-    let command = Command::Link(call);
+fn call_fields(line: &[u8], at: usize, call: Call, bytes: &mut Bytes) -> Fields {
     match call {
-        Call::Start => fields(line, at, command, &SETTINGS, 5, bytes),
-        Call::Submit | Call::Take => fields(line, at, command, &[WIDE, BYTES], 2, bytes),
+        Call::Start => field::read_all(line, at, &SETTINGS, 5, bytes),
+        Call::Submit | Call::Take => field::read_all(line, at, &[WIDE, BYTES], 2, bytes),
         Call::Look | Call::Acknowledge | Call::Resynchronise => {
-            fields(line, at, command, &[WIDE], 1, bytes)
+            field::read_all(line, at, &[WIDE], 1, bytes)
         }
     }
 }
 
-fn fields_of(line: &[u8], at: usize, command: Command, bytes: &mut Bytes) -> Order {
+fn fields_of(line: &[u8], at: usize, command: Command, bytes: &mut Bytes) -> Fields {
     match command {
-        Command::Unknown => no_order(),
-        Command::Lend => fields(line, at, command, &[BUFFER, BUFFER], 2, bytes),
-        Command::State => fields(line, at, command, &STATE, 18, bytes),
-        Command::Room => fields(line, at, command, &[ROOM], 1, bytes),
-        Command::Joining => fields(line, at, command, &[FLAG, MIDDLE], 2, bytes),
+        Command::Unknown => no_fields(),
+        Command::Lend => field::read_all(line, at, &[BUFFER, BUFFER], 2, bytes),
+        Command::State => field::read_all(line, at, &STATE, 18, bytes),
+        Command::Room => field::read_all(line, at, &[ROOM], 1, bytes),
+        Command::Joining => field::read_all(line, at, &[FLAG, MIDDLE], 2, bytes),
         Command::Link(call) => call_fields(line, at, call, bytes),
-        Command::Join => fields(line, at, command, &[MIDDLE, BYTES], 2, bytes),
-        Command::Cut => fields(line, at, command, &[MIDDLE, WIDE, PACKET, BYTES], 4, bytes),
+        Command::Join => field::read_all(line, at, &[MIDDLE, BYTES], 2, bytes),
+        Command::Cut => field::read_all(line, at, &[MIDDLE, WIDE, PACKET, BYTES], 4, bytes),
     }
 }
 
 pub fn read(line: &[u8], bytes: &mut Bytes) -> Order {
-    let end = bytes::scan::find(line, 0, line.len(), SPACE);
+    let end = field::word_end(line);
     let command = command_of(&line[0..end]);
-    fields_of(line, end, command, bytes)
+    let fields = fields_of(line, end, command, bytes);
+    Order { fields, command }
 }

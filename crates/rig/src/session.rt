@@ -1,20 +1,23 @@
 // What goes on from line to line, and what each command does with it.
-use crate::buffers::Bytes;
 use crate::buffers::Fresh;
 use crate::buffers::Kept;
 use crate::buffers::ROOM_AT;
 use crate::order::Call;
 use crate::order::Command;
-use crate::order::FIELDS;
 use crate::order::Order;
-use crate::order::Values;
 use chain::Joined;
 use chain::Joining;
 use chain::Piece;
 use state::Link;
 use state::Outcome;
 use state::Settings;
-ghost use Prim.Native.Nat.{_≤_};
+use text::field::Bytes;
+use text::field::FIELDS;
+use text::field::Values;
+use text::field::middle;
+use text::field::small;
+use text::field::wide;
+use text::least;
 
 // The state is the last outcome's; slots and frame are how many bytes are lent.
 pub struct Session {
@@ -39,25 +42,7 @@ fn fill(buffer: &mut [u8], byte: u8) {
     }
 }
 
-fn least(a: usize, b: usize) -> usize
-    ensures { λ r. ⌜ r ≤ b ⌝ }
-{
-    if a < b { a } else { b }
-}
-
-// ---- numbers of a line, as wide as the link's
-
-fn small(value: u64) -> u8 {
-    (value % 256) as u8
-}
-
-fn middle(value: u64) -> u16 {
-    (value % 65536) as u16
-}
-
-fn wide(value: u64) -> u32 {
-    (value % 4294967296) as u32
-}
+// ---- a line's numbers
 
 // The first fields of `start` and of `state`.
 fn settings_of(v: Values) -> Settings {
@@ -263,7 +248,7 @@ fn cut(v: Values, bytes: &Bytes, fresh: &mut Fresh, s: Session) -> Session {
 
 pub fn obey(o: Order, bytes: &Bytes, kept: &mut Kept, fresh: &mut Fresh, s: Session) -> Session {
     let command = o.command;
-    let values = o.values;
+    let values = o.fields.values;
     match command {
         Command::Unknown => s,
         Command::Lend => lend(values, kept, s),

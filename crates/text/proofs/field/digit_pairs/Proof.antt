@@ -1,10 +1,10 @@
--- `rig::field::digit_pairs` is safe and ends.
+-- `text::field::digit_pairs` is safe and ends.
 -- Assumes nothing.
 use Prim.Native.Nat.{_≤_, _-_}
 use lib.ListN.{length}
 use borrow.Author.Needs.{needs}
-use Rattle.rig.proofs.field.digit_pairs.Statement.{statement}
-use Rattle.rig.proofs.field.digit_pairs.Tie as tie
+use Rattle.text.proofs.field.digit_pairs.Statement.{statement}
+use Rattle.text.proofs.field.digit_pairs.Tie as tie
 
 abbrev Inv-loop : tie.InvT-loop
 Inv-loop line from bytes₀ n₀ i₀ bytes n i = n ≤ 8192

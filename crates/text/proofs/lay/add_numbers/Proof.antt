@@ -1,10 +1,10 @@
--- `rig::text::add_numbers` is safe and ends.
+-- `text::lay::add_numbers` is safe and ends.
 -- Assumes nothing.
 use Prim.Native.Nat.{_-_}
 use lib.ListN.{length}
 use borrow.Author.Needs.{needs}
-use Rattle.rig.proofs.text.add_numbers.Statement.{statement}
-use Rattle.rig.proofs.text.add_numbers.Tie as tie
+use Rattle.text.proofs.lay.add_numbers.Statement.{statement}
+use Rattle.text.proofs.lay.add_numbers.Tie as tie
 
 abbrev Inv-loop : tie.InvT-loop
 Inv-loop out₀ at numbers next₀ i₀ t7 out next i = Unit {0}

@@ -1,10 +1,10 @@
--- `rig::text::spell` is safe.
+-- `text::lay::spell` is safe.
 -- Assumes nothing.
 use lib.ListN.{length-set}
 use native.Mathlib.Omega.{arith}
 use borrow.Author.Needs.{needs}
-use Rattle.rig.proofs.text.spell.Statement.{statement}
-use Rattle.rig.proofs.text.spell.Tie as tie
+use Rattle.text.proofs.lay.spell.Statement.{statement}
+use Rattle.text.proofs.lay.spell.Tie as tie
 
 slice-write-out-2 : tie.Need-slice-write-out-2
 slice-write-out-2 c = simp length-set (omega arith)

@@ -1,8 +1,17 @@
 // A line's fields: numbers in decimal digits, and bytes in hexadecimal ones.
-use crate::buffers::Bytes;
-use crate::buffers::MOST_BYTES;
 ghost use Prim.Native.Nat.{_≤_, _<_};
 ghost use lib.ListN.{length};
+
+pub const MOST_BYTES: usize = 8192;
+
+// The bytes of a line's byte field.
+pub type Bytes = [u8; MOST_BYTES];
+
+// The most fields that a line has.
+pub const FIELDS: usize = 18;
+
+// A field's number; of a byte field how many bytes; 0 of a field that is absent.
+pub type Values = [u64; FIELDS];
 
 // Stands for a field's largest number where the field is bytes.
 pub const BYTES: u64 = u64::MAX;
@@ -24,7 +33,12 @@ pub struct Field {
     pub good: bool,
 }
 
-pub fn missing() -> Field {
+pub struct Fields {
+    pub values: Values,
+    pub good: bool,
+}
+
+fn missing() -> Field {
     Field {
         value: 0,
         end: 0,
@@ -150,7 +164,7 @@ fn some_bytes(line: &[u8], from: usize, bytes: &mut Bytes) -> Field {
 }
 
 // The field behind the space at `at`.
-pub fn read(line: &[u8], at: usize, largest: u64, bytes: &mut Bytes) -> Field {
+fn read(line: &[u8], at: usize, largest: u64, bytes: &mut Bytes) -> Field {
     if line.len() <= at {
         return missing();
     }
@@ -161,4 +175,60 @@ pub fn read(line: &[u8], at: usize, largest: u64, bytes: &mut Bytes) -> Field {
         return some_bytes(line, at + 1, bytes);
     }
     number(line, at + 1, largest)
+}
+
+// ---- all fields of a line
+
+// Field n; there is none past the last that has a largest number.
+fn field_at(line: &[u8], at: usize, largest: &[u64], n: usize, bytes: &mut Bytes) -> Field {
+    if n < largest.len() {
+        return read(line, at, largest[n], bytes);
+    }
+    missing()
+}
+
+// The fields from `at` to the line's end, each up to its largest number. There may be fewer, but not under `least`.
+pub fn read_all(
+    line: &[u8],
+    at: usize,
+    largest: &[u64],
+    least: usize,
+    bytes: &mut Bytes,
+) -> Fields {
+    let mut values = [0u64; FIELDS];
+    let mut next = at;
+    let mut good = true;
+    let mut n: usize = 0;
+    while n < FIELDS && good && next < line.len() {
+        let f = field_at(line, next, largest, n, bytes);
+        values[n] = f.value;
+        next = f.end;
+        good = f.good;
+        n += 1;
+    }
+    Fields {
+        values,
+        good: good & (least <= n) & (next == line.len()),
+    }
+}
+
+// Where the line's first word ends.
+pub fn word_end(line: &[u8]) -> usize
+    ensures { λ r. ⌜ r ≤ length (now (line .entry)) ⌝ }
+{
+    bytes::scan::find(line, 0, line.len(), SPACE)
+}
+
+// ---- numbers as wide as the link's
+
+pub fn small(value: u64) -> u8 {
+    (value % 256) as u8
+}
+
+pub fn middle(value: u64) -> u16 {
+    (value % 65536) as u16
+}
+
+pub fn wide(value: u64) -> u32 {
+    (value % 4294967296) as u32
 }

@@ -1,11 +1,11 @@
--- `rig::move_to_front` is safe and ends.
+-- `text::lines::move_to_front` is safe and ends.
 -- Assumes nothing.
 use mathlib.Core.Path.{_≡_}
 use Prim.Native.Nat.{_≤_, _-_}
 use lib.ListN.{length}
 use borrow.Author.Needs.{needs}
-use Rattle.rig.proofs.move_to_front.Statement.{statement}
-use Rattle.rig.proofs.move_to_front.Tie as tie
+use Rattle.text.proofs.lines.move_to_front.Statement.{statement}
+use Rattle.text.proofs.lines.move_to_front.Tie as tie
 
 abbrev Inv-loop : tie.InvT-loop
 Inv-loop input₀ from to i₀ input i = (from ≤ i) × (length input ≡ length input₀)

@@ -1,10 +1,10 @@
--- `rig::field::number` is safe and ends.
+-- `text::field::number` is safe and ends.
 -- Assumes nothing.
 use Prim.Native.Nat.{_-_}
 use lib.ListN.{length}
 use borrow.Author.Needs.{needs}
-use Rattle.rig.proofs.field.number.Statement.{statement}
-use Rattle.rig.proofs.field.number.Tie as tie
+use Rattle.text.proofs.field.number.Statement.{statement}
+use Rattle.text.proofs.field.number.Tie as tie
 
 abbrev Inv-loop : tie.InvT-loop
 Inv-loop line from largest value₀ i₀ value i = Unit {0}

@@ -1,11 +1,11 @@
--- `rig::text::spell_all` is safe and ends.
+-- `text::lay::spell_all` is safe and ends.
 -- Assumes nothing.
 use mathlib.Core.Path.{_≡_}
 use Prim.Native.Nat.{_-_}
 use lib.ListN.{length}
 use borrow.Author.Needs.{needs}
-use Rattle.rig.proofs.text.spell_all.Statement.{statement}
-use Rattle.rig.proofs.text.spell_all.Tie as tie
+use Rattle.text.proofs.lay.spell_all.Statement.{statement}
+use Rattle.text.proofs.lay.spell_all.Tie as tie
 
 abbrev Inv-loop : tie.InvT-loop
 Inv-loop out₀ bytes i₀ out i = length out ≡ length out₀
