@@ -3,6 +3,7 @@ pub mod field;
 pub mod lay;
 pub mod lines;
 pub mod talk;
+
 ghost use Prim.Native.Nat.{_≤_};
 
 pub fn least(a: usize, b: usize) -> usize

@@ -94,7 +94,7 @@ fn read_behind(input: &mut [u8], kept: usize) -> usize
     read_some(&mut input[kept..])
 }
 
-fn move_to_front(input: &mut [u8], from: usize, to: usize)
+pub fn move_to_front(input: &mut [u8], from: usize, to: usize)
     requires { ⌜ (from ≤ to) × (to ≤ length (now input)) ⌝ }
 {
     let mut i = from;

@@ -1,0 +1,14 @@
+-- `bus::run` is safe and ends.
+-- Assumes nothing.
+use borrow.Author.Needs.{needs}
+use Rattle.bus.proofs.run.Statement.{statement}
+use Rattle.bus.proofs.run.Tie as tie
+
+abbrev Inv-loop : tie.InvT-loop
+Inv-loop input₀ desk₀ chip₀ bytes₀ fresh₀ out₀ k₀ turns₀ input desk chip bytes fresh out k turns = Unit {0}
+
+abbrev μ-loop : tie.MeasureT-loop
+μ-loop input₀ desk₀ chip₀ bytes₀ fresh₀ out₀ k₀ turns₀ input desk chip bytes fresh out k turns = turns
+
+pub run-spec : {M : Type 1} → statement M
+run-spec = tie.close (tie.spec Inv-loop μ-loop (λ c κs. search needs) (λ c. search needs) (λ c κs. search needs) (λ c κs. search needs) (λ c. search needs) (λ c. search needs) (λ c κs. search needs) (λ c κs. search needs) (λ c. search needs))
