@@ -68,6 +68,6 @@ messageSize = 13
 abbrev pub noSuchPacket : ℕ
 noSuchPacket = 16
 
--- "Order: ..": the first of two answers that refuses
+-- the first of two answers that refuses; every gate is built of it, and quotes its own order
 abbrev pub firstOf : ℕ → ℕ → ℕ
 firstOf a b = cond (eqb a done) b a

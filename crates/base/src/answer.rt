@@ -23,7 +23,7 @@ pub const CHAIN_FAULT: u8 = 10;
 
 pub const OTHER_CHANNEL: u8 = 11;
 
-pub const SECURED: u8 = 12;
+pub const SECURED_PACKET: u8 = 12;
 
 pub const MESSAGE_SIZE: u8 = 13;
 

@@ -1,3 +1,3 @@
-// What every room above uses: document 01's numbers, and writing into a lent buffer.
+// What every crate above uses: document 01's numbers, and writing into a lent buffer.
 pub mod answer;
 pub mod buffer;

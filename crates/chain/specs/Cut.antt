@@ -19,11 +19,13 @@ limitOk m = within 11 m 1019
 abbrev pub longest : ℕ
 longest = 4096
 
+-- for the contract of a function inside
 abbrev pub leastOf : ℕ → ℕ → ℕ
 leastOf a b = cond (ltb a b) a b
 
 -- ---- the packets of a message
 
+-- "parts of m − 1". "Section 4 counts PCTR apart; section 5.1, which includes it, decides."
 abbrev pub partSize : ℕ → ℕ
 partSize m = m - 1
 
@@ -31,16 +33,19 @@ partSize m = m - 1
 abbrev pub packetCount : ℕ → ℕ → ℕ
 packetCount m message = (message + (partSize m - 1)) / partSize m
 
+-- "one packet, CHAIN 000"; "first 001, middle 010, last 100"
 abbrev pub chainAt : ℕ → ℕ → ℕ
 chainAt i count = cond (eqb count 1) whole (cond (eqb i 0) first (cond (eqb (i + 1) count) last middle))
 
+-- "last 100 with 1 to m − 1 bytes of it": what is left there is less, or just as much
 abbrev pub partAt : ℕ → List ℕ → ℕ → List ℕ
 partAt m message i = take (partSize m) (drop (i * partSize m) message)
 
+-- channel 0: "Not built: .. channels other than 0."
 abbrev pub packetAt : ℕ → List ℕ → ℕ → List ℕ
 packetAt m message i = pctrOf 0 (chainAt i (packetCount m (length message))) ∷ partAt m message i
 
--- the first so many, and all of them
+-- by how many, so that the promises can speak of the first k packets as well as of all
 abbrev pub packetsTo : ℕ → List ℕ → ℕ → List (List ℕ)
 packetsTo m message zero = []
 packetsTo m message (suc k) = packetsTo m message k ++ (packetAt m message k ∷ [])
@@ -50,7 +55,8 @@ packetsOf m message = packetsTo m message (packetCount m (length message))
 
 -- ---- the call
 
--- "cutting, for an m outside 11 to 1,019, 1, then 2, 13, 16", of m, the length of the packet buffer, that of the message, and i
+-- "cutting, for an m outside 11 to 1,019, 1, then 2, 13, 16", of m, the length of the packet buffer, that of the message, and i;
+-- "a packet buffer m"
 unfoldable pub cutGate : ℕ → ℕ → ℕ → ℕ → ℕ
 cutGate m buffer message i =
     firstOf (cond (limitOk m) done outOfRange)

@@ -12,7 +12,8 @@ use Rattle.chain.specs.declared.Joined.{Joined}
 use Rattle.chain.specs.Pctr.{channelOf, securedOf, chainOf, pctrOf, whole, first, middle, last, fault}
 use Rattle.chain.specs.Cut.{limitOk, longest}
 
--- "none is open and the joined length is 0"
+-- Document 01 names no state to begin with; it is the one after a finished or a dropped chain, in which "none is open and the joined length
+-- is 0". "Chaining has two calls": what gives this state is no third one.
 abbrev pub freshJoining : Joining
 freshJoining = record { joined = 0; opened = false }
 
@@ -26,7 +27,7 @@ joins told room = record { told = told; room = room }
 
 -- ---- refusals
 
--- "the one-byte packet 07 (section 5.2)", of a channel
+-- "the one-byte packet 07 (section 5.2)"; of a channel, because the fifteen others follow
 abbrev pub faultPacket : ℕ → ℕ
 faultPacket channel = pctrOf channel fault
 
@@ -49,14 +50,14 @@ refusal j answer = record {
 -- ---- the outer checks
 
 -- "Joining also gives 1 first for such an m"; "a joined length above 4,096"; "room too short, 2; packet of 0 or more than m bytes, 4; channel
--- not 0, 11"
+-- not 0, 11". "The slot buffer needs .., the joining room 4,096."
 unfoldable pub joinGate : ℕ → Joining → List ℕ → ℕ → ℕ
 joinGate m j packet room =
     firstOf (cond (limitOk m && leb (j .joined) longest) done outOfRange)
     (firstOf (cond (ltb room longest) shortBuffer done)
     (firstOf (cond (within 1 (length packet) m) done packetSize) (cond (eqb (channelOf (getD packet 0 0)) 0) done otherChannel)))
 
--- ---- the chain, which never looks at the channel
+-- ---- the chain: the rules behind "channel not 0, 11", which will be the same for every channel
 
 -- 000 and 001 begin a message, 010 and 100 go on with one
 abbrev pub begins : ℕ → Bool
@@ -70,11 +71,11 @@ abbrev pub finishes : ℕ → Bool
 finishes chain = eqb chain whole || eqb chain last
 
 -- "CHAIN 011, 101, 110 or longer 111, 10; 000 or 001 while a chain is open, or 010 or 100 while none is, 10; 001 or 010 not exactly m bytes, 10;
--- 000 or 100 of one byte, 10"
+-- 000 or 100 of one byte, 10". "The orphan and one-byte rules are ours, where 000 is silent."
 unfoldable pub faulty : ℕ → Bool → ℕ → ℕ → Bool
 faulty m opened chain size =
     not (begins chain || goesOn chain)
-    || (begins chain && opened || goesOn chain && not opened)
+    || ((begins chain && opened) || (goesOn chain && not opened))
     || (not (finishes chain) && not (eqb size m))
     || (finishes chain && eqb size 1)
 
@@ -82,6 +83,7 @@ faulty m opened chain size =
 abbrev pub placeOf : Joining → ℕ → ℕ
 placeOf j chain = cond (begins chain) 0 (j .joined)
 
+-- of the packet's bytes all but PCTR are the message's
 abbrev pub joinedTo : Joining → ℕ → ℕ → ℕ
 joinedTo j chain size = placeOf j chain + (size - 1)
 

@@ -1,4 +1,6 @@
 -- What is promised of cutting and joining beyond the calls' contracts; proofs/Chains.antt and proofs/Rejoining.antt prove it.
+-- CutsAll, RejoinsAll and NoneBefore serve demand 2, in which chaining is to be right at the sending end and the receiving end alike: the first
+-- ties packetsOf to the call cut, the others to the call join.
 use Prim.Native.Nat.{ℕ, zero, suc, _<_, _≤_}
 use mathlib.Core.Bool.{true, false, cond}
 use mathlib.Core.List.{List, [], _∷_, _++_}
@@ -85,7 +87,7 @@ NoneBefore =
 
 -- ---- the calls alone
 
--- any two outcomes that a contract allows are equal
+-- "any two outcomes allowed are equal"
 abbrev pub CutSettled : Type 0
 CutSettled =
     (told other : Piece) (buffer otherBuffer : List ℕ) (all : Cutting) → cutting told buffer ≡ all → cutting other otherBuffer ≡ all
@@ -96,6 +98,6 @@ JoinSettled =
     (told other : Joined) (room otherRoom : List ℕ) (all : Joins) → joins told room ≡ all → joins other otherRoom ≡ all
     → (told ≡ other) × (room ≡ otherRoom)
 
--- a joined length of at most 4,096 stays so, whatever is joined
+-- Serves demand 1, by which no caller has to check first: a state that join left is not refused for "a joined length above 4,096".
 abbrev pub JoinKept : Type 0
 JoinKept = (m : ℕ) (j : Joining) (packet room : List ℕ) → j .joined ≤ longest → joined m j packet room .told .state .joined ≤ longest

@@ -246,7 +246,7 @@ fn chain_gate(m: u16, j: Joining, pctr: u8, size: usize) -> u8
         return answer::CHAIN_FAULT;
     }
     if (pctr / 8 % 2 == 1) & (chain <= FIRST) {
-        return answer::SECURED;
+        return answer::SECURED_PACKET;
     }
     if LONGEST < place_of(j, chain) + (size - 1) {
         return answer::TOO_LONG;

@@ -30,10 +30,11 @@ afterOldest l = l .waiting - 1
 
 -- ---- a due packet
 
--- "A due packet already repeated TRANS_REPEAT times makes the link lost and nothing is sent."
+-- "A due packet already repeated TRANS_REPEAT times makes the link lost and nothing is sent." It leaves "lost mark only".
 abbrev pub exhausted : Link → List ℕ → List ℕ → After Outcome
 exhausted l slots frame = after (only (withLost l true) linkLost) slots frame
 
+-- "serves the oldest waiting packet if due": by a repeat, while TRANS_REPEAT leaves one
 abbrev pub served : Link → List ℕ → List ℕ → ℕ → ℕ → After Outcome
 served l slots frame ms number =
     cond (mayRepeat l number) (ends (sendsRepeat l slots frame ms number) done 0 slots) (exhausted l slots frame)
@@ -52,7 +53,7 @@ lookedAt l slots frame ms =
     (cond (packetDue l 0 ms) (served l slots frame ms (sentBefore l 0))
     (acknowledgedIf (acknowledgeDue l ms) l slots frame))
 
--- look's answer is a type of its own
+-- look's answer is a type of its own, so that it can tell more than the others' do later, e.g. when the next timer is due (DECISIONS D79)
 abbrev pub looking : After Outcome → After Looked
 looking a = after (record { outcome = a .told }) (a .slots) (a .frame)
 

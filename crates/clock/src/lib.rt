@@ -12,7 +12,7 @@ ghost use Rattle.state.specs.Gate.{after, only, gateOf};
 ghost use Rattle.send.specs.Repeat.{mayRepeat, Ready};
 ghost use Rattle.clock.specs.Look.{packetDue, acknowledgeDue, afterOldest, served, acknowledgedIf, lookedAt, looked, acknowledgedNow};
 
-// look's answer: a type of its own, so that it can tell more than the other calls' answers.
+// look's answer: a type of its own, so that it can tell more than the other calls' do later, e.g. when the next timer is due.
 pub struct Looked {
     pub outcome: Outcome,
 }

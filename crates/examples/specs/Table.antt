@@ -33,6 +33,7 @@ pub record End : Type 0 where
 abbrev pub delivered0 : End → Link
 delivered0 e = withAcking (withAckstart (withExpected (freshOf (e .settings)) 1) (e .ms)) true
 
+-- in this order: the answer, the length of the frame sent, that of the packet delivered
 abbrev pub told : Link → ℕ → ℕ → ℕ → Outcome
 told l answer sent delivered = record { state = l; sent = sent; delivered = delivered; dropped = 0; answer = answer }
 

@@ -23,7 +23,7 @@ unfolding bitStep
 bitSteps zero seed byte = seed
 bitSteps (suc n) seed byte = bitSteps n (bitStep seed (byte % 2)) (byte / 2)
 
--- one byte
+-- "for each byte, low bit first": all eight, so a step by the table can stand for it
 unfoldable pub byteStep : ℕ → ℕ → ℕ
 unfolding bitSteps
 byteStep seed byte = bitSteps 8 seed byte

@@ -20,13 +20,13 @@ fcsBytes sum = (sum % 256) ∷ (sum / 256) ∷ []
 unfoldable pub sealed : List ℕ → List ℕ
 sealed covered = covered ++ fcsBytes (checksumOf covered)
 
--- a whole frame
+-- "FCTR, LEN (two bytes, high first), LEN packet bytes, FCS"
 unfoldable pub frameOf : ℕ → List ℕ → List ℕ
 unfolding sealed
 frameOf fctr packet = sealed (fctr ∷ (lenBytes (length packet) ++ packet))
 
 -- "FCTR: bit 7 control; bits 6:5 are 00 ACK, 01 NAK, 10 reset; bit 4 zero; bits 3:2 frame number; bits 1:0 the acknowledged number."
--- "Each data frame, also a repeated one, carries ACK for the last correct number"
+-- Which number is acknowledged is the sender's to say: packetAccepted and the makers (send) do.
 abbrev pub dataFrame : ℕ → ℕ → List ℕ → List ℕ
 dataFrame number acknowledged packet = frameOf (number * 4 + acknowledged) packet
 
@@ -39,6 +39,8 @@ nakFrame acknowledged = frameOf (0xA0 + acknowledged) []
 -- "the reset frame, C0 00 00 9A 0A"
 abbrev pub resetFrame : List ℕ
 resetFrame = 0xC0 ∷ 0x00 ∷ 0x00 ∷ 0x9A ∷ 0x0A ∷ []
+
+-- ---- for the contracts of functions inside
 
 -- what a writer leaves: it tells the frame's length, and the frame's bytes stand at the start of the buffer. "Bytes of a lent buffer past
 -- what a call writes stay."

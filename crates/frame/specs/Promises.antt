@@ -1,4 +1,6 @@
--- What is promised of frames beyond the functions' own contracts; proofs/Hearing.antt proves each.
+-- What is promised of frames beyond the functions' own contracts; proofs/Hearing.antt proves each. The first five serve demand 2, in which
+-- frames are to be right at the sending end and the receiving end alike; demand 3 stands on them. The last two serve demand 1: whatever was
+-- received, the bytes told are there, and no number is looked up that is none.
 use Prim.Native.Nat.{ℕ, _+_, _-_, _≤_}
 use mathlib.Core.Bool.{false}
 use mathlib.Core.List.{List}

@@ -13,6 +13,7 @@ use Rattle.frame.specs.Bytes.{fcsBytes}
 
 -- ---- the parts of a frame
 
+-- "FCTR, LEN (two bytes, high first), LEN packet bytes, FCS": it stands first
 abbrev pub fctrOf : List ℕ → ℕ
 fctrOf frame = getD frame 0 0
 
@@ -20,6 +21,7 @@ fctrOf frame = getD frame 0 0
 abbrev pub lenOf : List ℕ → ℕ
 lenOf frame = getD frame 1 0 * 256 + getD frame 2 0
 
+-- a test, since `_≡_` is a statement and decides no case
 abbrev pub sameBytes : List ℕ → List ℕ → Bool
 sameBytes [] [] = true
 sameBytes [] (b ∷ t) = false
@@ -50,7 +52,8 @@ numberOf fctr = fctr / 4 % 4
 abbrev pub acknowledgedOf : ℕ → ℕ
 acknowledgedOf fctr = fctr % 4
 
--- "Used codes are those of Table 8-1: 0x00–0x0F, 0x20–0x2F, 0x80–0x83, 0xA0–0xA3, 0xC0."
+-- "Used codes are those of Table 8-1: 0x00–0x0F, 0x20–0x2F, 0x80–0x83, 0xA0–0xA3, 0xC0." "Section 1.3 would ignore bit 4;
+-- Tables 3-2 and 8-1 decide that a set bit is refused."
 unfoldable pub used : ℕ → Bool
 used fctr =
     within 0x00 fctr 0x0F || within 0x20 fctr 0x2F || within 0x80 fctr 0x83 || within 0xA0 fctr 0xA3 || eqb fctr 0xC0
@@ -72,14 +75,16 @@ judged fctr len size =
     (cond (isControl fctr && (not (eqb size 5) || not (eqb len 0))) ControlSize
     (cond (not (isControl fctr) && (eqb len 0 || not (eqb len (size - 5)))) Length (accepted fctr len)))
 
--- "1. Fewer than 5 bytes, more than D, or a wrong checksum". "Steps 1 to 4 use nothing else of the frame."
+-- "1. Fewer than 5 bytes, more than D, or a wrong checksum"
 unfoldable pub heard : ℕ → List ℕ → Heard
 unfolding fcsAt judged
 heard d frame =
     cond (ltb (length frame) 5 || ltb d (length frame)) Size
     (cond (not (fcsAt (length frame - 2) frame)) Sum (judged (fctrOf frame) (lenOf frame) (length frame)))
 
--- the number of each refusal: "answer 6", "7", "8", "6"; 0 for a frame that passes
+-- "When an answer is an enum, a definition gives this paper's number and values for each case of that enum. The promises use that definition."
+-- The numbers: 6 for steps 1 and 4, 7 for step 2, 8 for step 3; 0 for a control frame that passes, and for a data frame 0, or 9 by step 7,
+-- which needs the state. The values are the cases' own, read off FCTR and LEN by the definitions above.
 abbrev pub refusalOf : Heard → ℕ
 refusalOf Size = badFrame
 refusalOf Sum = badFrame

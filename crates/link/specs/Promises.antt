@@ -1,4 +1,5 @@
--- What is promised of the six calls beyond their contracts; proofs/Kept.antt proves each.
+-- What is promised of the six calls beyond their contracts; proofs/Kept.antt proves each. "No public call stands without one.": these six and the
+-- two of chaining are the public calls; what else is `pub` is so for the crates above it only, and some of it requires something.
 use Prim.Native.Nat.{ℕ, _≤_}
 use mathlib.Core.Bool.{true}
 use mathlib.Core.List.{List}
@@ -41,7 +42,8 @@ pub record AckThree (s : Settings) : Type 0 where
   pub control : (slots frame : List ℕ) (ms : ℕ) → inRange s ≡ true → slotsNeed s ≤ length slots → frameNeed s ≤ length frame
       → taken (freshOf s) slots frame ms (ackFrame 3) ≡ refused (freshOf s) done slots frame
 
--- every call leaves a sound state where it found one, whatever it is given; start makes one where it answers 0
+-- Serves demand 1, by which no caller has to check first: a state that start made with answer 0, and that only calls changed, is never refused
+-- with 1. So every call leaves a sound state where it found one, whatever it is given.
 pub record Kept : Type 0 where
   pub start : (s : Settings) (slots : ℕ) → started s slots .answer ≡ done → Sound (started s slots .state)
   pub submit : (l : Link) (slots frame : List ℕ) (ms : ℕ) (packet : List ℕ) → Sound l → Sound (submitted l slots frame ms packet .told .state)

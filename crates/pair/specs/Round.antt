@@ -34,7 +34,7 @@ carriedIn (there S T U k rest) = suc (carriedIn rest)
 
 -- ---- the clock
 
--- a packet's timer runs while it waits
+-- a packet's timer runs while it waits. A lost end's timers count too: the clock then stays, and what is said of rounds asks that no link be lost.
 abbrev pub runs : Link → Bool
 runs l = ltb 0 (l .waiting) || l .acking
 
@@ -61,7 +61,8 @@ pub data Looks (ms : ℕ) : System → System → Type 0 where
 
 -- ---- rounds
 
--- one round from a clock on, and by how many milliseconds it moves the clock; either end may be the first to be looked at
+-- one round from a clock on, and by how many milliseconds it moves the clock; either end may be the first to be looked at.
+-- Looks that take turns would leave the same, since a look reads no queue and changes nothing of the other end but the queue towards it.
 pub data Round (ms : ℕ) : System → ℕ → System → Type 0 where
   round : (S T U W : System) (passed : ℕ) → Carries ms S T → T .here .queue ≡ [] → T .there .queue ≡ [] → Passes T ms passed
       → Looks (onward ms passed) T U → Looks (onward ms passed) (swap U) (swap W) → Round ms S passed W

@@ -1,4 +1,5 @@
--- One run, played out: a frame lost, one damaged, a NAK, and a clock that wraps; then rounds until everything is through.
+-- One run, played out: a frame lost, one damaged, a NAK, and a clock that wraps; then rounds until everything is through. Nobody asked for it; it
+-- shows that the statements of Demand3.antt speak of something: such moments, rounds and ends exist. Desk, chip and loans are the customer's.
 use Prim.Native.Nat.{ℕ}
 use mathlib.Core.List.{List, [], _∷_}
 use mathlib.Core.Path.{_≡_}

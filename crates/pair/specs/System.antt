@@ -1,5 +1,6 @@
--- Two ends and two queues. Demand 3: "Start two ends fresh with equal settings. Join them by a queue each way that is empty at first, keeps order,
--- and may lose a frame or damage it so that its size or checksum is refused."
+-- Two ends and two queues, for demand 3, the customer's third demand. What is quoted after `demand 3:` is in its words and not in document 01's.
+-- demand 3: "Start two ends fresh with equal settings. Join them by a queue each way that is empty at first, keeps order, and may lose a frame or
+-- damage it so that its size or checksum is refused."
 use Prim.Native.Nat.{ℕ, _<_, _≤_}
 use mathlib.Core.Bool.{true, cond}
 use mathlib.Core.List.{List, [], _∷_, _++_}
@@ -54,16 +55,16 @@ deliveredBy a received = cond (eqb (a .told .delivered) 0) [] (packetIn received
 abbrev pub takenBy : After Outcome → List ℕ → List (List ℕ)
 takenBy a packet = cond (eqb (a .told .answer) done) (packet ∷ []) []
 
--- what is left of the queue: "nothing changed" with answer 2, so the frame is still to be handed over; with any other answer it is used up
+-- what is left of the queue. Our choice, no rule: who lent too short a buffer (answer 2) hands the frame over again; any other answer uses it up.
 abbrev pub leftBy : After Outcome → List ℕ → List (List ℕ) → List (List ℕ)
 leftBy a received rest = cond (eqb (a .told .answer) shortBuffer) (received ∷ rest) rest
 
--- "keeps order": what is sent goes behind what is on its way
+-- demand 3: "keeps order": what is sent goes behind what is on its way
 abbrev pub queued : List (List ℕ) → List (List ℕ) → List (List ℕ)
 queued queue sent = queue ++ sent
 
--- "each call gets the state the last one left and the same slots, in which only the link writes": the system after the call, with its queue
--- and with what it took and delivered
+-- demand 3: "each call gets the state the last one left and the same slots, in which only the link writes": the system after the call, with its
+-- queue and with what it took and delivered
 abbrev pub called : System → After Outcome → List (List ℕ) → List (List ℕ) → List (List ℕ) → System
 called S a queue takenIn delivered = record {
   here = record {
@@ -123,7 +124,7 @@ withQueue S queue = record {
   there = S .there;
 }
 
--- ---- moves
+-- ---- moves: resynchronise is none, for a resynchronised end is fresh and begins a new stretch, and the demand speaks of two ends started fresh
 
 -- "the present millisecond as a 32-bit number"
 abbrev pub IsClock : ℕ → Type 0
@@ -139,11 +140,11 @@ pub data Move (S : System) : System → Type 0 where
 
 -- ---- moments
 
--- an end fresh, the queue towards it empty
+-- an end as start gives it with answer 0 (`started`, state), the queue towards it empty
 abbrev pub freshSide : Settings → List ℕ → Side
 freshSide s slots = record { state = freshOf s; slots = slots; queue = []; takenIn = []; delivered = [] }
 
--- "From any such moment": two ends started fresh with equal settings and slots of any bytes, and any moves at either end since
+-- demand 3: "From any such moment": two ends started fresh with equal settings and slots of any bytes, and any moves at either end since
 pub data Moment (s : Settings) : System → Type 0 where
   start : (slots slots2 : List ℕ) → inRange s ≡ true → slotsNeed s ≤ length slots → slotsNeed s ≤ length slots2
       → Moment s (record { here = freshSide s slots; there = freshSide s slots2 })

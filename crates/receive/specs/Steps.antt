@@ -7,7 +7,8 @@ use Rattle.state.specs.State.{behind, waits}
 use Rattle.send.specs.Repeat.{mayRepeat}
 
 -- "ACK k frees every waiting packet up to number k, if k waits; else nothing." What was sent after k waits on.
--- "Freeing a packet leaves these as they are": only how many wait changes.
+-- "Freeing a packet leaves these as they are": only how many wait changes. "Easy to get wrong": "Taking ACK k for packet k only, so an older one
+-- waits on."
 abbrev pub freed : Link → ℕ → Link
 freed l number = withWaiting l (cond (waits l number) (behind l number) (l .waiting))
 
@@ -15,7 +16,8 @@ freed l number = withWaiting l (cond (waits l number) (behind l number) (l .wait
 abbrev pub repeatable : Link → ℕ → Bool
 repeatable l number = waits l number && mayRepeat l number
 
--- the state after step 6, of a data frame that carries NAK or ACK of this number
+-- the state after step 6, of a data frame that carries NAK or ACK of this number. "Easy to get wrong": "Treating a NAK as an acknowledgement of
+-- the one before."
 abbrev pub afterStep6 : Link → Bool → ℕ → Link
 afterStep6 l nak number = cond nak l (freed l number)
 

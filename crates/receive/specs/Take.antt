@@ -15,7 +15,8 @@ use Rattle.state.specs.Gate.{After, after, refused, gated, gateOf}
 use Rattle.send.specs.Makers.{Sending, silent, ends, sendsRepeat, sendsAck, sendsNak}
 use Rattle.receive.specs.Steps.{freed, repeatable, afterStep6, afterDelivery}
 
--- "answer 6, NAK", "7, NAK"
+-- "answer 6, NAK", "7, NAK"; what they leave: "NAK mark; NAK written if sent". "Steps 1 to 4 use nothing else of the frame.": none of its numbers
+-- comes in.
 abbrev pub refusedWithNak : Link → List ℕ → List ℕ → Heard → After Outcome
 refusedWithNak l slots frame h = ends (sendsNak l frame) (refusalOf h) 0 slots
 
@@ -33,7 +34,9 @@ abbrev pub nakObeyed : Link → List ℕ → List ℕ → ℕ → ℕ → After 
 nakObeyed l slots frame ms number = ends (repeatedOr (repeatable l number) l slots frame ms number (silent l frame)) done 0 slots
 
 -- "7. Data: if its number is the expected one, it is delivered (the packet is the frame from byte 3, LEN bytes) .. Otherwise 9, and an ACK for
--- the last correct number goes out." The states after steps 6 and 7 are named sixth and seventh.
+-- the last correct number goes out. (Section 3.2 says NAK here; Table 3-2 says ACK and decides.)" With 9, "step 6 done; one frame written".
+-- "Easy to get wrong": "Delivering the frame after a gap." Only the length is told: which bytes it means, packetIn (frame) says.
+-- The states after steps 6 and 7 are named sixth and seventh.
 unfoldable pub dataTaken : Link → List ℕ → List ℕ → ℕ → ℕ → Bool → ℕ → ℕ → After Outcome
 dataTaken l slots frame ms number nak acknowledged len =
     let repeat : Bool = nak && repeatable l acknowledged in
@@ -43,7 +46,7 @@ dataTaken l slots frame ms number nak acknowledged len =
     (ends (repeatedOr repeat seventh slots frame ms acknowledged (silent seventh frame)) done len slots)
     (ends (repeatedOr repeat sixth slots frame ms acknowledged (sendsAck sixth frame)) unexpected 0 slots)
 
--- what was heard, obeyed
+-- steps 1 to 4 are decided by what was heard, 5 to 7 need the state; step 3 is "8, dropped, nothing sent"
 unfoldable pub obeyed : Link → List ℕ → List ℕ → ℕ → Heard → After Outcome
 unfolding dataTaken
 obeyed l slots frame ms Size = refusedWithNak l slots frame Size

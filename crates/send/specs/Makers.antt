@@ -28,28 +28,30 @@ sends l bytes frame = sending (record { state = l; sent = length bytes }) (put f
 abbrev pub silent : Link → List ℕ → Sending
 silent l frame = sending (record { state = l; sent = 0 }) frame
 
--- a call that ends so: its answer, the length of the packet delivered, and the slot buffer as it was
+-- a call that sends one of these, or nothing, drops no packet and leaves the slot buffer as it was
 abbrev pub ends : Sending → ℕ → ℕ → List ℕ → After Outcome
 ends s answer delivered slots =
     after (record { state = s .told .state; sent = s .told .sent; delivered = delivered; dropped = 0; answer = answer }) slots (s .frame)
 
 -- ---- the makers
 
--- "Each data frame, also a repeated one, carries ACK for the last correct number at that moment": made anew from the slot
+-- "Each data frame, also a repeated one, carries ACK for the last correct number at that moment": made anew from the slot. "Easy to get wrong":
+-- "Repeating stored frame bytes: an old ACK three numbers back reads as one ahead."
 abbrev pub sendsRepeat : Link → List ℕ → List ℕ → ℕ → ℕ → Sending
 sendsRepeat l slots frame ms number = sends (again l number ms) (dataFrame number (lastCorrect l) (packetOf l slots number)) frame
 
--- "Every control ACK stops the acknowledge timer"
+-- "Every control ACK stops the acknowledge timer". Its start time stays, as the packets' do ("Freeing a packet leaves these as they are").
 abbrev pub quiet : Link → Link
 quiet l = withAcking l false
 
 abbrev pub sendsAck : Link → List ℕ → Sending
 sendsAck l frame = sends (quiet l) (ackFrame (lastCorrect l)) frame
 
--- "a control NAK doesn't"; the mark that one was sent
+-- the "NAK mark", by which one "is sent at most once until the next delivery"
 abbrev pub marked : Link → Link
 marked l = withNaked l true
 
 -- "A NAK names the last correct number + 1, is always a control frame, and is sent at most once until the next delivery."
+-- "Every control ACK stops the acknowledge timer; a control NAK doesn't."
 abbrev pub sendsNak : Link → List ℕ → Sending
 sendsNak l frame = cond (l .naked) (silent l frame) (sends (marked l) (nakFrame ((lastCorrect l + 1) % 4)) frame)

@@ -31,7 +31,10 @@ again l number ms = dataSent l number ms (countOf l number + 1)
 abbrev pub mayRepeat : Link → ℕ → Bool
 mayRepeat l number = ltb (countOf l number) (l .settings .repeats)
 
+-- ---- for the contracts of functions inside
+
 -- what the maker of a repeat needs: a frame number, a slot, the packet in the slot buffer, its frame in a frame buffer, a count that can rise
+-- (255 is the most that a u8 holds)
 abbrev pub Ready : Link → ℕ → ℕ → ℕ → Type 0
 Ready l number slots frame =
     ((number ≤ 3) × (1 ≤ l .settings .window) × (l .settings .window ≤ 2))

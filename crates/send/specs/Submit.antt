@@ -36,7 +36,7 @@ abbrev pub sentFirst : Link → ℕ → ℕ → Link
 sentFirst l ms packet = queued (dataSent l (l .next) ms 0) packet
 
 -- "Submit copies the packet to the slot numbered (frame number modulo WIN_SIZE), the slot's part of the lent buffer beginning where the slot
--- begins; every other byte stays."
+-- begins; every other byte stays." "Each data frame, also a repeated one, carries ACK for the last correct number at that moment"
 abbrev pub packetAccepted : Link → List ℕ → List ℕ → ℕ → List ℕ → After Outcome
 packetAccepted l slots frame ms packet =
     after (record {

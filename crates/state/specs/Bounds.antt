@@ -5,7 +5,7 @@ use lib.Dec.{leb, ltb}
 use Rattle.base.specs.Range.{within}
 use Rattle.state.specs.declared.Settings.{Settings}
 
--- "packet limit m = D − 5, PCTR included"
+-- "packet limit m = D − 5, PCTR included". "Section 3.1 of 000 allows D bytes of packet data; Table 2-1's D − 5 decides."
 abbrev pub limitOf : Settings → ℕ
 limitOf s = s .d - 5
 

@@ -29,6 +29,7 @@ abbrev pub resetSent : Link → List ℕ → List ℕ → After Outcome
 resetSent l slots frame =
     after (record { state = renewed l; sent = length resetFrame; delivered = 0; dropped = l .waiting; answer = done }) slots (put frame 0 resetFrame)
 
+-- "(all but start and resynchronise)": 1 and 2 are asked, and not 3, for this is the way out of a lost link
 unfoldable pub resynchronised : Link → List ℕ → List ℕ → After Outcome
 unfolding entryOf freshOf
 resynchronised l slots frame = gated (entryOf l (length slots) (length frame)) l slots frame (resetSent l slots frame)

@@ -1,4 +1,5 @@
--- What the tests of well-formedness and the gate say, as plain inequalities; proofs/Facts.antt shows it, and of the first two the way back.
+-- What the tests of well-formedness and the gate say, as plain inequalities, for the proofs of all crates above: of Sound alone something is
+-- promised (link). proofs/Facts.antt shows that the tests give these, and of InRange and Formed the way back.
 use Prim.Native.Nat.{ℕ, _<_, _≤_}
 use mathlib.Core.Bool.{true, false}
 use mathlib.Core.Path.{_≡_}
@@ -42,7 +43,8 @@ pub record Open (l : Link) (slots frame : ℕ) : Type 0 where
   pub entered : Entered l slots frame
   pub alive : l .lost ≡ false
 
--- a state whose arrays have two elements, as every state has that code can hold, and that is well formed (DECISIONS D80)
+-- a state whose arrays have two elements, as every state has that code can hold, and that is well formed: a list with no place for a slot would
+-- lose what is stored there (DECISIONS D80)
 pub record Sound (l : Link) : Type 0 where
   pub starts : length (l .starts) ≡ 2
   pub lengths : length (l .lengths) ≡ 2

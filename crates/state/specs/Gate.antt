@@ -9,7 +9,9 @@ use Rattle.state.specs.declared.Outcome.{Outcome}
 use Rattle.state.specs.Bounds.{slotsNeed, frameNeed}
 use Rattle.state.specs.State.{wellFormed}
 
--- what a call tells, and every byte of the two buffers lent to it
+-- what a call tells, and every byte of the two buffers lent to it. "The answer also tells the lengths of the frame sent and the packet
+-- delivered and how many packets were dropped, 0 for none.": `sent`, `delivered` and `dropped` of Outcome. "Each sends at most one frame.": the
+-- buffer has it from its first byte on.
 pub record After (R : Type 0) : Type 0 where
   pub told : R
   pub slots : List ℕ
@@ -22,7 +24,7 @@ after r slots frame = record { told = r; slots = slots; frame = frame }
 abbrev pub only : Link → ℕ → Outcome
 only l answer = record { state = l; sent = 0; delivered = 0; dropped = 0; answer = answer }
 
--- "nothing changed"
+-- "nothing changed"; "buffers untouched"
 abbrev pub refused : Link → ℕ → List ℕ → List ℕ → After Outcome
 refused l answer slots frame = after (only l answer) slots frame
 
@@ -37,7 +39,7 @@ entryOf l slots frame =
     firstOf (cond (wellFormed l) done outOfRange)
     (cond (ltb slots (slotsNeed (l .settings)) || ltb frame (frameNeed (l .settings))) shortBuffer done)
 
--- 1, 2 and 3, or 0
+-- 1, 2 and 3, or 0; 3 is for "link lost, now or before (all but start and resynchronise)"
 unfoldable pub gateOf : Link → ℕ → ℕ → ℕ
 unfolding entryOf
 gateOf l slots frame = firstOf (entryOf l slots frame) (cond (l .lost) linkLost done)

@@ -11,18 +11,21 @@ use Rattle.state.specs.Bounds.{limitOf, inRange}
 
 -- ---- numbers
 
--- "holds 3 as last correct" where 0 is expected: the number before the expected one (DECISIONS D8)
+-- "holds 3 as last correct" where 0 is expected: a delivery moves both and nothing moves one alone, so it is no field that could disagree
+-- (DECISIONS D8)
 abbrev pub lastCorrect : Link → ℕ
 lastCorrect l = (l .expected + 3) % 4
 
--- how many packets have been sent after this number (DECISIONS D9)
+-- how many packets have been sent after this number: next − 1 − number modulo 4, with 8 added so that − does not stop at 0. Packets are freed
+-- from the oldest on, so next and how many wait settle which do, and no third number could contradict them (DECISIONS D9).
 abbrev pub behind : Link → ℕ → ℕ
 behind l number = (l .next + 7 - number) % 4
 
+-- freed from the oldest on, so it is the newest that wait
 abbrev pub waits : Link → ℕ → Bool
 waits l number = ltb (behind l number) (l .waiting)
 
--- the number that n packets have been sent after: the newest for 0
+-- the number that n packets have been sent after, so 0 gives the newest: next − 1 − n modulo 4, with 4 added so that − does not stop at 0
 abbrev pub sentBefore : Link → ℕ → ℕ
 sentBefore l n = (l .next + 3 - n) % 4
 
