@@ -33,7 +33,7 @@ tested-entry (x ∷ xs) i t (suc k) h =
     tested-entry xs (suc i) (both-right (eqb x (byteStep 0 i)) (tested (suc i) xs) t) k (le-of-suc-le-suc h) ∙ ap (byteStep 0) (suc-add i k ∙ sym (add-suc i k))
 
 pub tested-agrees : (table : List ℕ) → length table ≡ 256 → T (tested 0 table) → Agrees table
-tested-agrees table e t = record { entry = λ k h. tested-entry table 0 t k (rw e h) ∙ ap (byteStep 0) (zero-add k) }
+tested-agrees table e t = record { size = e; entry = λ k h. tested-entry table 0 t k (rw e h) ∙ ap (byteStep 0) (zero-add k) }
 
 pub agrees-step : {table : List ℕ} → Agrees table → (seed byte : ℕ) → byte < 2 ^ 8
     → bitXor (getD table (bitAnd (bitXor seed byte) 255) 0) (seed / 256) ≡ byteStep seed byte

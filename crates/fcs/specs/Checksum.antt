@@ -5,7 +5,7 @@ use mathlib.Core.Bool.{Bool, true, false}
 use mathlib.Core.List.{List, [], _∷_}
 use mathlib.Core.Path.{_≡_}
 use lib.Dec.{eqb}
-use lib.ListN.{getD}
+use lib.ListN.{length, getD}
 use lib.Bits.{bitXor}
 
 -- "combine with 0x8408 when the bit leaving differs": whether it is the same, and the seed shifted right
@@ -41,4 +41,5 @@ checksumOf bytes = checksumFrom 0 bytes
 
 -- "a table of 256 entries, shown once to agree with the bit rule": entry k is eight steps of the bit rule from 0
 pub record Agrees (table : List ℕ) : Type 0 where
+  pub size : length table ≡ 256
   pub entry : (k : ℕ) → k < 256 → getD table k 0 ≡ byteStep 0 k
