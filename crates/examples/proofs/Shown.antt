@@ -1,5 +1,5 @@
 -- Each row of the table, computed. Assumes nothing.
-use mathlib.Core.Path.{_≡_, refl, _∙_}
+use mathlib.Core.Path.{_≡_, refl, ap, _∙_}
 use mathlib.Core.Bool.{true, false}
 use mathlib.Core.List.{List, [], _∷_}
 use Prim.Native.Nat.{ℕ, _≤_}
@@ -7,23 +7,26 @@ use native.Mathlib.Omega.{arith}
 use borrow.Author.Tests.{le-ltb}
 use lib.ListN.{length}
 use lib.Dec.{ltb}
+use Rattle.base.specs.Answer.{done}
 use Rattle.fcs.specs.Checksum.{checksumOf}
 use Rattle.frame.specs.Bytes.{sealed, frameOf}
-use Rattle.frame.specs.Steps.{heard, judged}
+use Rattle.frame.specs.Steps.{heard, judged, packetIn}
 use Rattle.state.specs.declared.Link.{Link}
+use Rattle.state.specs.declared.Outcome.{Outcome}
 use Rattle.state.specs.State.{freshOf}
+use Rattle.state.specs.Gate.{After, after}
 use Rattle.state.specs.Formed.{Formed, Sound}
 use Rattle.state.proofs.Facts.{inRange-facts, wellFormed-facts}
 use Rattle.state.proofs.Keeps.{fresh-sound, changed-sound, sound-open}
 use Rattle.receive.specs.Take.{obeyed, taken}
 use Rattle.receive.proofs.Facts.{taken-open}
-use Rattle.examples.specs.Table.{End, delivered0, Table}
+use Rattle.examples.specs.Table.{End, example6Taken, delivered0, told, Table}
 
 -- an end of the table that is not lost hears the frame
-opened : (e : End) (l : Link) (received : List ℕ) → Sound l → l .lost ≡ false → l .settings ≡ e .settings
-    → taken l (e .slots) (e .frame) (e .ms) received ≡ obeyed l (e .slots) (e .frame) (e .ms) (heard (l .settings .d) received)
-opened e l received s alive same =
-    taken-open l (e .slots) (e .frame) (e .ms) received
+opened : (e : End) (l : Link) (ms : ℕ) (received : List ℕ) → Sound l → l .lost ≡ false → l .settings ≡ e .settings
+    → taken l (e .slots) (e .frame) ms received ≡ obeyed l (e .slots) (e .frame) ms (heard (l .settings .d) received)
+opened e l ms received s alive same =
+    taken-open l (e .slots) (e .frame) ms received
     (sound-open l (length (e .slots)) (length (e .frame)) s alive (rw same (e .slots-room)) (rw same (e .frame-room)))
 
 fresh-end : (e : End) → Sound (freshOf (e .settings))
@@ -41,6 +44,13 @@ after-example8 e =
 longer : (e : End) (size : ℕ) → size ≤ 16 → ltb (e .settings .d) size ≡ false
 longer e size h = le-ltb (e .settings .d) size (omega (arith, inRange-facts (e .settings) (e .range) .d-lo))
 
+delivered : (e : End) → example6Taken e ≡ after (told (delivered0 e) done 0 1) (e .slots) (e .frame)
+unfolding checksumOf frameOf sealed freshOf heard judged obeyed
+delivered e = opened e (freshOf (e .settings)) (e .ms) (0x03 ∷ 0x00 ∷ 0x01 ∷ 0x00 ∷ 0x15 ∷ 0x3C ∷ []) (fresh-end e) refl refl ∙ rw (longer e 6 (omega arith))
+
+abbrev second : ℕ → After Outcome → After Outcome
+second later a = taken (a .told .state) (a .slots) (a .frame) later (0x03 ∷ 0x00 ∷ 0x01 ∷ 0x00 ∷ 0x15 ∷ 0x3C ∷ [])
+
 pub shown : Table
 unfolding checksumOf frameOf sealed freshOf heard judged obeyed
 shown = record {
@@ -51,9 +61,12 @@ shown = record {
   example5 = refl;
   example6 = refl;
   example7-sum = refl;
-  example7 = λ e. opened e (freshOf (e .settings)) (0x00 ∷ 0x00 ∷ 0x00 ∷ 0x00 ∷ 0x00 ∷ []) (fresh-end e) refl refl ∙ rw (longer e 5 (omega arith));
-  example8 = λ e. opened e (freshOf (e .settings)) (0x03 ∷ 0x00 ∷ 0x01 ∷ 0x00 ∷ 0x15 ∷ 0x3C ∷ []) (fresh-end e) refl refl ∙ rw (longer e 6 (omega arith));
-  example9 = λ e. opened e (delivered0 e) (0x03 ∷ 0x00 ∷ 0x01 ∷ 0x00 ∷ 0x15 ∷ 0x3C ∷ []) (after-example8 e) refl refl ∙ rw (longer e 6 (omega arith));
+  example7-step4 = λ d h. rw (le-ltb d 5 h);
+  example7 = λ e. opened e (freshOf (e .settings)) (e .ms) (0x00 ∷ 0x00 ∷ 0x00 ∷ 0x00 ∷ 0x00 ∷ []) (fresh-end e) refl refl ∙ rw (longer e 5 (omega arith));
+  example8 = delivered;
+  example8-packet = λ e. ap (λ (a : After Outcome). packetIn (0x03 ∷ 0x00 ∷ 0x01 ∷ 0x00 ∷ 0x15 ∷ 0x3C ∷ []) (a .told .delivered)) (delivered e);
+  example9 = λ e later. ap (second later) (delivered e)
+      ∙ opened e (delivered0 e) later (0x03 ∷ 0x00 ∷ 0x01 ∷ 0x00 ∷ 0x15 ∷ 0x3C ∷ []) (after-example8 e) refl refl ∙ rw (longer e 6 (omega arith));
   example10 = λ a b c d e f g h i j. refl;
   example11 = λ a b c d e f g h i j k. refl;
   example12 = refl;

@@ -7,14 +7,16 @@ use lib.ListN.{length}
 use Rattle.base.specs.Answer.{done, badFrame, unexpected}
 use Rattle.base.specs.Buffer.{put}
 use Rattle.fcs.specs.Checksum.{checksumOf}
+use Rattle.frame.specs.declared.Heard.the-variants.{Length}
 use Rattle.frame.specs.Bytes.{sealed, dataFrame, ackFrame, nakFrame, resetFrame}
+use Rattle.frame.specs.Steps.{heard, packetIn}
 use Rattle.state.specs.declared.Settings.{Settings}
 use Rattle.state.specs.declared.Link.{Link}
 use Rattle.state.specs.declared.Outcome.{Outcome}
 use Rattle.state.specs.Bounds.{inRange, slotsNeed, frameNeed}
 use Rattle.state.specs.Fields.{withAckstart, withExpected, withAcking, withNaked}
 use Rattle.state.specs.State.{freshOf}
-use Rattle.state.specs.Gate.{after}
+use Rattle.state.specs.Gate.{After, after}
 use Rattle.state.specs.Timer.{elapsed}
 use Rattle.receive.specs.Take.{taken}
 use Rattle.chain.specs.Cut.{packetsOf}
@@ -29,7 +31,11 @@ pub record End : Type 0 where
   pub slots-room : slotsNeed settings ≤ length slots
   pub frame-room : frameNeed settings ≤ length frame
 
--- the state that example 8 leaves
+-- what example 8 leaves, by the rule ..
+abbrev pub example6Taken : End → After Outcome
+example6Taken e = taken (freshOf (e .settings)) (e .slots) (e .frame) (e .ms) (0x03 ∷ 0x00 ∷ 0x01 ∷ 0x00 ∷ 0x15 ∷ 0x3C ∷ [])
+
+-- .. and its state, written out
 abbrev pub delivered0 : End → Link
 delivered0 e = withAcking (withAckstart (withExpected (freshOf (e .settings)) 1) (e .ms)) true
 
@@ -50,16 +56,19 @@ pub record Table : Type 0 where
   pub example5 : sealed (0xC0 ∷ 0x00 ∷ 0x00 ∷ []) ≡ resetFrame
   -- "03 00 01 00 ends 15 3C (data 0, ACK 3)."
   pub example6 : dataFrame 0 3 (0x00 ∷ []) ≡ 0x03 ∷ 0x00 ∷ 0x01 ∷ 0x00 ∷ 0x15 ∷ 0x3C ∷ []
-  -- "Five zero bytes have a right checksum; ..
+  -- "Five zero bytes have a right checksum": as it is written ..
   pub example7-sum : sealed (0x00 ∷ 0x00 ∷ 0x00 ∷ []) ≡ 0x00 ∷ 0x00 ∷ 0x00 ∷ 0x00 ∷ 0x00 ∷ []
-  -- .. a fresh end answers 6 and sends example 4's frame."
+  -- .. and as it is read: not step 1 refuses them, which answers 6 too, but step 4
+  pub example7-step4 : (d : ℕ) → 5 ≤ d → heard d (0x00 ∷ 0x00 ∷ 0x00 ∷ 0x00 ∷ 0x00 ∷ []) ≡ Length
+  -- "a fresh end answers 6 and sends example 4's frame."
   pub example7 : (e : End) → taken (freshOf (e .settings)) (e .slots) (e .frame) (e .ms) (0x00 ∷ 0x00 ∷ 0x00 ∷ 0x00 ∷ 0x00 ∷ [])
       ≡ after (told (withNaked (freshOf (e .settings)) true) badFrame 5 0) (e .slots) (put (e .frame) 0 (0xA0 ∷ 0x00 ∷ 0x00 ∷ 0xD7 ∷ 0x0F ∷ []))
   -- "Example 6 at a fresh end is delivered."
-  pub example8 : (e : End) → taken (freshOf (e .settings)) (e .slots) (e .frame) (e .ms) (0x03 ∷ 0x00 ∷ 0x01 ∷ 0x00 ∷ 0x15 ∷ 0x3C ∷ [])
-      ≡ after (told (delivered0 e) done 0 1) (e .slots) (e .frame)
-  -- "The same again: 9, and example 2's frame goes out."
-  pub example9 : (e : End) → taken (delivered0 e) (e .slots) (e .frame) (e .ms) (0x03 ∷ 0x00 ∷ 0x01 ∷ 0x00 ∷ 0x15 ∷ 0x3C ∷ [])
+  pub example8 : (e : End) → example6Taken e ≡ after (told (delivered0 e) done 0 1) (e .slots) (e .frame)
+  pub example8-packet : (e : End) → packetIn (0x03 ∷ 0x00 ∷ 0x01 ∷ 0x00 ∷ 0x15 ∷ 0x3C ∷ []) (example6Taken e .told .delivered) ≡ 0x00 ∷ []
+  -- "The same again: 9, and example 2's frame goes out.": at any millisecond, with all as example 8 left it
+  pub example9 : (e : End) (later : ℕ) → taken (example6Taken e .told .state) (example6Taken e .slots) (example6Taken e .frame) later
+      (0x03 ∷ 0x00 ∷ 0x01 ∷ 0x00 ∷ 0x15 ∷ 0x3C ∷ [])
       ≡ after (told (withAcking (delivered0 e) false) unexpected 5 0) (e .slots) (put (e .frame) 0 (0x80 ∷ 0x00 ∷ 0x00 ∷ 0xEC ∷ 0x0C ∷ []))
   -- "m = 11: 10 bytes make one packet."
   pub example10 : (a b c d e f g h i j : ℕ) → packetsOf 11 (a ∷ b ∷ c ∷ d ∷ e ∷ f ∷ g ∷ h ∷ i ∷ j ∷ [])
