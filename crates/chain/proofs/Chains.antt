@@ -55,12 +55,12 @@ chainGate-fits m j pctr size e =
 -- ---- the calls alone
 
 pub cut-settled : CutSettled
-cut-settled told other buffer otherBuffer all p q =
+cut-settled m message i packet told other written otherWritten p q =
     let e = p ∙ sym q in
     (ap (λ (c : Cutting). c .told) e, ap (λ (c : Cutting). c .buffer) e)
 
 pub join-settled : JoinSettled
-join-settled told other room otherRoom all p q =
+join-settled m j packet room told other written otherWritten p q =
     let e = p ∙ sym q in
     (ap (λ (j : Joins). j .told) e, ap (λ (j : Joins). j .room) e)
 

@@ -11,8 +11,8 @@ use Rattle.base.specs.Answer.{done}
 use Rattle.chain.specs.declared.Joining.{Joining}
 use Rattle.chain.specs.declared.Joined.{Joined}
 use Rattle.chain.specs.declared.Piece.{Piece}
-use Rattle.chain.specs.Cut.{limitOk, longest, packetCount, packetsTo, packetsOf, Cutting, cutting, cutOut}
-use Rattle.chain.specs.Join.{freshJoining, Joins, joins, joined}
+use Rattle.chain.specs.Cut.{limitOk, longest, packetCount, packetsTo, packetsOf, cutting, cutOut}
+use Rattle.chain.specs.Join.{freshJoining, joins, joined}
 
 -- ---- cutting gives exactly the packets of the message
 
@@ -90,13 +90,15 @@ NoneBefore =
 -- "any two outcomes allowed are equal"
 abbrev pub CutSettled : Type 0
 CutSettled =
-    (told other : Piece) (buffer otherBuffer : List ℕ) (all : Cutting) → cutting told buffer ≡ all → cutting other otherBuffer ≡ all
-    → (told ≡ other) × (buffer ≡ otherBuffer)
+    (m : ℕ) (message : List ℕ) (i : ℕ) (packet : List ℕ) (told other : Piece) (written otherWritten : List ℕ)
+    → cutting told written ≡ cutOut m message i packet → cutting other otherWritten ≡ cutOut m message i packet
+    → (told ≡ other) × (written ≡ otherWritten)
 
 abbrev pub JoinSettled : Type 0
 JoinSettled =
-    (told other : Joined) (room otherRoom : List ℕ) (all : Joins) → joins told room ≡ all → joins other otherRoom ≡ all
-    → (told ≡ other) × (room ≡ otherRoom)
+    (m : ℕ) (j : Joining) (packet room : List ℕ) (told other : Joined) (written otherWritten : List ℕ)
+    → joins told written ≡ joined m j packet room → joins other otherWritten ≡ joined m j packet room
+    → (told ≡ other) × (written ≡ otherWritten)
 
 -- Serves demand 1, by which no caller has to check first: a state that join left is not refused for "a joined length above 4,096".
 abbrev pub JoinKept : Type 0

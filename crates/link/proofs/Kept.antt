@@ -7,6 +7,7 @@ use lib.ListN.{length}
 use Rattle.frame.specs.Bytes.{ackFrame}
 use Rattle.frame.proofs.Hearing.{ack-heard}
 use Rattle.state.specs.declared.Settings.{Settings}
+use Rattle.state.specs.declared.Outcome.{Outcome}
 use Rattle.state.specs.State.{freshOf}
 use Rattle.state.specs.Gate.{After}
 use Rattle.state.specs.Calls.{resynchronised}
@@ -20,12 +21,24 @@ use Rattle.receive.proofs.Facts.{taken-open}
 use Rattle.receive.proofs.Keeps.{taken-sound}
 use Rattle.clock.specs.Look.{looked, acknowledgedNow}
 use Rattle.clock.proofs.Keeps.{looked-sound, acknowledgedNow-sound}
-use Rattle.link.specs.Promises.{Settled, ZeroRefused, AckThree, Kept}
+use Rattle.link.specs.Promises.{OneOutcome, Settled, ZeroRefused, AckThree, Kept}
 
-pub settled : {R : Type 0} → Settled R
-settled {R} told other slots otherSlots frame otherFrame whole p q =
+one : {R : Type 0} (slots : List ℕ) (whole : After R) → OneOutcome slots whole
+one {R} slots whole told other written otherWritten p q =
     let e = p ∙ sym q in
-    (ap (λ (a : After R). a .told) e, ap (λ (a : After R). a .slots) e, ap (λ (a : After R). a .frame) e)
+    (ap (λ (a : After R). a .told) e, ap (λ (a : After R). a .frame) e)
+
+pub settled : Settled
+settled =
+    record {
+      start = λ s slots told other p q. p ∙ sym q;
+      submit = λ l slots frame ms packet told other copied otherCopied written otherWritten p q. let e = p ∙ sym q in
+          (ap (λ (a : After Outcome). a .told) e, ap (λ (a : After Outcome). a .slots) e, ap (λ (a : After Outcome). a .frame) e);
+      take = λ l slots frame ms received. one slots (taken l slots frame ms received);
+      look = λ l slots frame ms. one slots (looked l slots frame ms);
+      acknowledge = λ l slots frame. one slots (acknowledgedNow l slots frame);
+      resynchronise = λ l slots frame. one slots (resynchronised l slots frame);
+    }
 
 pub zero-refused : (slots frame : List ℕ) → ZeroRefused slots frame
 unfolding submitted taken looked acknowledgedNow resynchronised

@@ -9,6 +9,7 @@ use Rattle.base.specs.Answer.{done, outOfRange}
 use Rattle.frame.specs.Bytes.{ackFrame}
 use Rattle.state.specs.declared.Settings.{Settings}
 use Rattle.state.specs.declared.Link.{Link}
+use Rattle.state.specs.declared.Outcome.{Outcome}
 use Rattle.state.specs.Bounds.{inRange, slotsNeed, frameNeed}
 use Rattle.state.specs.State.{freshOf}
 use Rattle.state.specs.Gate.{after, After, refused}
@@ -19,13 +20,27 @@ use Rattle.receive.specs.Steps.{freed}
 use Rattle.receive.specs.Take.{taken}
 use Rattle.clock.specs.Look.{looking, looked, acknowledgedNow}
 
--- "any two outcomes allowed are equal": each contract but start's, which is of its result alone, is an equation of this form, with `whole` a
--- definition of the call's inputs alone
-abbrev pub Settled : Type 0 → Type 0
-Settled R =
-    (told other : R) (slots otherSlots frame otherFrame : List ℕ) (whole : After R)
-    → after told slots frame ≡ whole → after other otherSlots otherFrame ≡ whole
-    → (told ≡ other) × (slots ≡ otherSlots) × (frame ≡ otherFrame)
+-- ---- "any two outcomes allowed are equal"
+
+-- for the calls whose contracts have the slots on both sides: a buffer lent as `&[u8]` is not written, by its type
+abbrev pub OneOutcome : {R : Type 0} → List ℕ → After R → Type 0
+OneOutcome {R} slots whole =
+    (told other : R) (written otherWritten : List ℕ) → after told slots written ≡ whole → after other slots otherWritten ≡ whole
+    → (told ≡ other) × (written ≡ otherWritten)
+
+-- each line has its call's contract twice, on every input
+pub record Settled : Type 0 where
+  pub start : (s : Settings) (slots : List ℕ) (told other : Outcome)
+      → told ≡ started s (length slots) → other ≡ started s (length slots) → told ≡ other
+  pub submit : (l : Link) (slots frame : List ℕ) (ms : ℕ) (packet : List ℕ) (told other : Outcome) (copied otherCopied written otherWritten : List ℕ)
+      → after told copied written ≡ submitted l slots frame ms packet → after other otherCopied otherWritten ≡ submitted l slots frame ms packet
+      → (told ≡ other) × (copied ≡ otherCopied) × (written ≡ otherWritten)
+  pub take : (l : Link) (slots frame : List ℕ) (ms : ℕ) (received : List ℕ) → OneOutcome slots (taken l slots frame ms received)
+  pub look : (l : Link) (slots frame : List ℕ) (ms : ℕ) → OneOutcome slots (looked l slots frame ms)
+  pub acknowledge : (l : Link) (slots frame : List ℕ) → OneOutcome slots (acknowledgedNow l slots frame)
+  pub resynchronise : (l : Link) (slots frame : List ℕ) → OneOutcome slots (resynchronised l slots frame)
+
+-- ---- states: zeros, fresh ones, sound ones
 
 -- "a state of zeros, to which every link call answers 1", and leaves all as it was, with buffers of any length
 pub record ZeroRefused (slots frame : List ℕ) : Type 0 where
