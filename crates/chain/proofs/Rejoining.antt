@@ -1,11 +1,12 @@
 -- Cutting gives the packets of a message, and joining them gives the message. Assumes nothing.
 use mathlib.Core.Path.{_≡_, refl, sym, ap, subst, _∙_}
-use mathlib.Core.Bool.{true, false, cond}
+use mathlib.Core.Bool.{Bool, true, false, cond}
 use mathlib.Core.List.{List, [], _∷_, _++_, append-assoc, append-nil}
 use Prim.Native.Nat.{ℕ, zero, suc, _+_, _-_, _*_, _/_, _%_, _<_, _≤_}
 use native.Mathlib.Nat.{suc-mul, zero-mul}
 use native.Mathlib.Omega.{arith}
-use borrow.Author.Tests.{le-leb, le-ltb, lt-ltb, eq-eqb, ne-eqb}
+use borrow.Author.Tests.{leb-true, leb-false, le-leb, lt-leb, le-ltb, lt-ltb, eq-eqb, ne-eqb}
+use lib.Dec.{leb}
 use lib.ListN.{length, take, drop, length-drop, length-take}
 use lib.Seq.{take-add, take-all}
 use Rattle.base.specs.Answer.{done}
@@ -16,7 +17,7 @@ use Rattle.chain.specs.declared.Joining.{Joining}
 use Rattle.chain.specs.Pctr.{pctrOf, whole, first, middle, last}
 use Rattle.chain.specs.Cut.{limitOk, longest, partSize, packetCount, chainAt, partAt, packetAt, packetsTo, cutGate, given, cutOut}
 use Rattle.chain.specs.Join.{freshJoining, joinGate, finishes, faulty, placeOf, joinedTo, chainGate, partJoined, joinedPart, joined}
-use Rattle.chain.specs.Promises.{cutsTo, CutsAll, Reader, messageIn, readOne, readAll, Idle, dones, Rejoined, RejoinsAll, NoneBefore}
+use Rattle.chain.specs.Promises.{cutsTo, CutsAll, LimitsAgree, Sized, none, more, PacketsSized, Reader, messageIn, readOne, readAll, Idle, dones, Rejoined, RejoinsAll, NoneBefore}
 use Rattle.chain.proofs.Parts.{part-inside, parts-all}
 
 -- ---- cutting
@@ -51,6 +52,43 @@ cuts-first m (suc k) message buffer e b lo hi c =
 
 pub cuts-all : CutsAll
 cuts-all m message buffer e b lo hi = cuts-first m (packetCount m (length message)) message buffer e b lo hi (omega arith)
+
+-- ---- sizes
+
+limits-low : (d : ℕ) → leb 16 d ≡ leb 11 (d - 5)
+limits-low d = go (leb 16 d) refl
+  where
+    go : (t : Bool) → leb 16 d ≡ t → leb 16 d ≡ leb 11 (d - 5)
+    go true e = e ∙ sym (le-leb 11 (d - 5) (omega (arith, leb-true 16 d e)))
+    go false e = e ∙ sym (lt-leb 11 (d - 5) (omega (arith, leb-false 16 d e)))
+
+limits-high : (d : ℕ) → leb d 1024 ≡ leb (d - 5) 1019
+limits-high d = go (leb d 1024) refl
+  where
+    go : (t : Bool) → leb d 1024 ≡ t → leb d 1024 ≡ leb (d - 5) 1019
+    go true e = e ∙ sym (le-leb (d - 5) 1019 (omega (arith, leb-true d 1024 e)))
+    go false e = e ∙ sym (lt-leb (d - 5) 1019 (omega (arith, leb-false d 1024 e)))
+
+pub limits-agree : LimitsAgree
+limits-agree d = rw (limits-low d, limits-high d)
+
+-- a packet that is counted has a byte of the message
+packet-some : (m i : ℕ) (message : List ℕ) → 11 ≤ m → i < packetCount m (length message) → 2 ≤ length (packetAt m message i)
+packet-some m i message h c =
+    let inside : i * partSize m < length message = part-inside m (length message) i h c in
+    simp (length-take, length-drop) (omega (arith, inside))
+
+sized-end : (m : ℕ) (packets : List (List ℕ)) (packet : List ℕ) → Sized m packets → 2 ≤ length packet → length packet ≤ m → Sized m (packets ++ (packet ∷ []))
+sized-end m packets packet none lo hi = more packet [] lo hi none
+sized-end m packets packet (more p ps l h rest) lo hi = more p (ps ++ (packet ∷ [])) l h (sized-end m ps packet rest lo hi)
+
+sized-first : (m k : ℕ) (message : List ℕ) → 11 ≤ m → k ≤ packetCount m (length message) → Sized m (packetsTo m message k)
+sized-first m zero message h c = none
+sized-first m (suc k) message h c =
+    sized-end m (packetsTo m message k) (packetAt m message k) (sized-first m k message h (omega arith)) (packet-some m k message h c) (packet-fits m k message h)
+
+pub packets-sized : PacketsSized
+packets-sized m message e = sized-first m (packetCount m (length message)) message (within-low 11 m 1019 e) (omega arith)
 
 -- ---- joining one packet
 

@@ -1,13 +1,14 @@
 -- What is promised of cutting and joining beyond the calls' contracts; proofs/Chains.antt and proofs/Rejoining.antt prove it.
 -- CutsAll, RejoinsAll and NoneBefore serve demand 2, in which chaining is to be right at the sending end and the receiving end alike: the first
--- ties packetsOf to the call cut, the others to the call join.
-use Prim.Native.Nat.{ℕ, zero, suc, _<_, _≤_}
+-- ties packetsOf to the call cut, the others to the call join. LimitsAgree and PacketsSized are for "with chaining above it".
+use Prim.Native.Nat.{ℕ, zero, suc, _-_, _<_, _≤_}
 use mathlib.Core.Bool.{true, false, cond}
 use mathlib.Core.List.{List, [], _∷_, _++_}
 use mathlib.Core.Path.{_≡_}
 use lib.ListN.{length, take}
 use lib.Dec.{eqb}
 use Rattle.base.specs.Answer.{done}
+use Rattle.base.specs.Range.{within}
 use Rattle.chain.specs.declared.Joining.{Joining}
 use Rattle.chain.specs.declared.Joined.{Joined}
 use Rattle.chain.specs.declared.Piece.{Piece}
@@ -26,6 +27,21 @@ abbrev pub CutsAll : Type 0
 CutsAll =
     (m : ℕ) (message buffer : List ℕ) → limitOk m ≡ true → m ≤ length buffer → 1 ≤ length message → length message ≤ longest
     → cutsTo m message buffer (packetCount m (length message)) ≡ packetsOf m message
+
+-- ---- what is cut can be sent
+
+-- "DATA_REG_LEN (D) | 16 to 1,024" and "packet limit m = D − 5, PCTR included | 11 to 1,019" are one bound: m of a link is an m of chaining
+abbrev pub LimitsAgree : Type 0
+LimitsAgree = (d : ℕ) → within 16 d 1024 ≡ limitOk (d - 5)
+
+-- 2 to m bytes each
+pub data Sized (m : ℕ) : List (List ℕ) → Type 0 where
+  none : Sized m []
+  more : (packet : List ℕ) (packets : List (List ℕ)) → 2 ≤ length packet → length packet ≤ m → Sized m packets → Sized m (packet ∷ packets)
+
+-- submit refuses a "packet of 0 or more than m bytes", and joining a "000 or 100 of one byte": no packet of a message is one
+abbrev pub PacketsSized : Type 0
+PacketsSized = (m : ℕ) (message : List ℕ) → limitOk m ≡ true → Sized m (packetsOf m message)
 
 -- ---- joining them gives the message
 
