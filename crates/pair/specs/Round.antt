@@ -34,7 +34,8 @@ carriedIn (there S T U k rest) = suc (carriedIn rest)
 
 -- ---- the clock
 
--- a packet's timer runs while it waits. A lost end's timers count too: the clock then stays, and what is said of rounds asks that no link be lost.
+-- a packet's timer runs while it waits. A lost end's timers count too, and once one is due the clock stays: what is said of rounds asks that no
+-- link be lost.
 abbrev pub runs : Link → Bool
 runs l = ltb 0 (l .waiting) || l .acking
 

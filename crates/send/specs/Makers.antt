@@ -28,7 +28,7 @@ sends l bytes frame = sending (record { state = l; sent = length bytes }) (put f
 abbrev pub silent : Link → List ℕ → Sending
 silent l frame = sending (record { state = l; sent = 0 }) frame
 
--- a call that sends one of these, or nothing, drops no packet and leaves the slot buffer as it was
+-- for the calls that end with a maker below, or silent: they drop no packet and leave the slot buffer as it was
 abbrev pub ends : Sending → ℕ → ℕ → List ℕ → After Outcome
 ends s answer delivered slots =
     after (record { state = s .told .state; sent = s .told .sent; delivered = delivered; dropped = 0; answer = answer }) slots (s .frame)
