@@ -4,11 +4,13 @@
 use std::io::{self, BufRead, Write};
 
 use crate::answer;
-use crate::chain::{Joined, Piece};
+use crate::chain::Piece;
 use crate::checksum::checksum;
 use crate::frame::{hear, Heard};
 use crate::link::Outcome;
-use crate::script::{hex, numbers, parse, Command, Fields, Line, Lines, Rig, Said};
+use crate::script::{
+    cut_numbers, hex, join_numbers, numbers, parse, Command, Fields, Line, Lines, Rig, Said,
+};
 
 const ARROW: &[u8] = b" -> ";
 
@@ -111,7 +113,7 @@ fn right_side(asked: &Left<'_>, rig: &mut Rig, out: &mut Vec<u8>) {
         Left::Script(command) => match rig.execute(command) {
             Said::Nothing => {}
             Said::Link(outcome) => link_side(rig, command, &outcome, out),
-            Said::Join(joined) => join_side(&joined, out),
+            Said::Join(joined) => join_numbers(&joined, out),
             Said::Cut(piece) => cut_side(rig, &piece, out),
         },
     }
@@ -173,22 +175,9 @@ fn packet_bytes<'a>(command: &Command<'a>) -> &'a [u8] {
     }
 }
 
-/// ANSWER LENGTH FAULT OPEN JOINED
-fn join_side(joined: &Joined, out: &mut Vec<u8>) {
-    let told = [
-        joined.answer.into(),
-        joined.length.into(),
-        joined.fault.into(),
-        joined.joining.open.into(),
-        joined.joining.joined.into(),
-    ];
-    numbers(&told, out);
-}
-
 /// ANSWER LENGTH COUNT PACKET
 fn cut_side(rig: &Rig, piece: &Piece, out: &mut Vec<u8>) {
-    let told = [piece.answer.into(), piece.length.into(), piece.count.into()];
-    numbers(&told, out);
+    cut_numbers(piece, out);
     out.push(b' ');
     hex(first(rig.packet(), piece.length), out);
 }

@@ -9,7 +9,7 @@ pub(crate) use command::Fields;
 pub use command::{parse, write, Command};
 pub use lines::{Line, Lines, LINE_LIMIT};
 pub use print::print;
-pub(crate) use print::{hex, numbers};
+pub(crate) use print::{cut_numbers, hex, join_numbers, numbers};
 pub use rig::{Rig, Said};
 
 use std::io::{self, BufRead, Write};

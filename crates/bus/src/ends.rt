@@ -30,11 +30,7 @@ pub struct Bus {
     pub has_pair: bool,
 }
 
-// The same, with the other end spoken to.
-pub fn turned(b: Bus) -> Bus {
-    let here = b.there;
-    let there = b.here;
-    let talk = b.talk;
+fn with(b: Bus, here: Side, there: Side, talk: Talk) -> Bus {
     Bus {
         here,
         there,
@@ -44,34 +40,19 @@ pub fn turned(b: Bus) -> Bus {
         clock: b.clock,
         has_pair: b.has_pair,
     }
+}
+
+// The same, with the other end spoken to.
+pub fn turned(b: Bus) -> Bus {
+    with(b, b.there, b.here, b.talk)
 }
 
 pub fn with_here(b: Bus, here: Side) -> Bus {
-    let there = b.there;
-    let talk = b.talk;
-    Bus {
-        here,
-        there,
-        talk,
-        passed: b.passed,
-        rounds: b.rounds,
-        clock: b.clock,
-        has_pair: b.has_pair,
-    }
+    with(b, here, b.there, b.talk)
 }
 
 pub fn with_talk(b: Bus, talk: Talk) -> Bus {
-    let here = b.here;
-    let there = b.there;
-    Bus {
-        here,
-        there,
-        talk,
-        passed: b.passed,
-        rounds: b.rounds,
-        clock: b.clock,
-        has_pair: b.has_pair,
-    }
+    with(b, b.here, b.there, talk)
 }
 
 pub fn with_link(s: Side, link: Link) -> Side {
@@ -135,6 +116,6 @@ fn joined(talk: Talk, link: Link, clock: u32, has_pair: bool) -> Bus {
     }
 }
 
-pub fn fresh_pair(b: Bus, link: Link, clock: u32) -> Bus {
-    joined(b.talk, link, clock, true)
+pub fn fresh_pair(b: Bus, link: Link, clock: u32, has_pair: bool) -> Bus {
+    joined(b.talk, link, clock, has_pair)
 }

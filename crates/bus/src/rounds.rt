@@ -8,6 +8,7 @@ use crate::shelf::Kept;
 use crate::words;
 use state::Link;
 use text::field::Bytes;
+use text::heard::add_counted;
 use text::lay::Output;
 use text::lay::add;
 use text::lay::of_wide;
@@ -34,7 +35,7 @@ pub fn carry(
 // Each frame that is on its way costs at most four that are carried, and a queue holds at most 64.
 const CARRIED: usize = 512;
 
-fn is_quiet(b: Bus) -> bool {
+fn is_carried(b: Bus) -> bool {
     (b.here.queue == 0) & (b.there.queue == 0)
 }
 
@@ -46,7 +47,7 @@ fn carry_next(
     out: &mut Output,
     b: Bus,
 ) -> Bus {
-    if is_quiet(b) {
+    if is_carried(b) {
         return b;
     }
     // From the longer queue, so that the other has room for what comes of it.
@@ -150,7 +151,7 @@ pub fn tell_pass(out: &mut Output, b: Bus, ms: u32) -> Bus {
     }
     let k = pass(b, ms);
     let a = moves::begun_at_clock(out, k);
-    let c = words::add_counted(out, a, b"", of_wide(ms));
+    let c = add_counted(out, a, b"", of_wide(ms));
     let d = add(out, c, b" ms later");
     moves::ended(out, d, k)
 }
@@ -187,7 +188,7 @@ fn tell_round(out: &mut Output, b: Bus) -> Bus {
     let mut k = b;
     k.rounds = std::num::wrapping_add_u64(b.rounds, 1);
     let a = moves::begun_at_clock(out, k);
-    let c = words::add_counted(out, a, b"-- round ", k.rounds);
+    let c = add_counted(out, a, b"-- round ", k.rounds);
     moves::ended(out, c, k)
 }
 
@@ -216,12 +217,17 @@ fn is_lost(b: Bus) -> bool {
 }
 
 // Nothing is on its way, and no timer runs: nothing waits, and nothing is owed.
-fn is_through(b: Bus) -> bool {
-    is_quiet(b)
+fn is_quiet(b: Bus) -> bool {
+    is_carried(b)
         & (b.here.link.waiting == 0)
         & (b.there.link.waiting == 0)
         & (b.here.link.acking == false)
         & (b.there.link.acking == false)
+}
+
+// A reset may have dropped what was taken.
+fn is_delivered(b: Bus) -> bool {
+    (b.here.got == b.there.taken) & (b.there.got == b.here.taken)
 }
 
 fn round_or_rest(
@@ -233,7 +239,7 @@ fn round_or_rest(
     b: Bus,
     to_the_end: bool,
 ) -> Bus {
-    if to_the_end & (is_through(b) | is_lost(b)) {
+    if to_the_end & (is_quiet(b) | is_lost(b)) {
         return b;
     }
     round(desk, chip, bytes, fresh, out, b)
@@ -289,8 +295,11 @@ fn add_settled(out: &mut Output, at: usize, b: Bus) -> usize {
     if is_lost(b) {
         return add(out, at, b"-- a link is lost");
     }
-    if is_through(b) {
+    if is_quiet(b) & is_delivered(b) {
         return add(out, at, b"-- all is through");
+    }
+    if is_quiet(b) {
+        return add(out, at, b"-- nothing waits any more");
     }
     add(out, at, b"-- not all is through")
 }
@@ -298,7 +307,7 @@ fn add_settled(out: &mut Output, at: usize, b: Bus) -> usize {
 fn tell_settled(out: &mut Output, b: Bus, rounds: u64, ms: u64) -> Bus {
     let a = moves::begun_at_clock(out, b);
     let c = add_settled(out, a, b);
-    let d = words::add_counted(out, c, b"; timer rounds: ", rounds);
-    let e = words::add_counted(out, d, b", milliseconds: ", ms);
+    let d = add_counted(out, c, b"; timer rounds: ", rounds);
+    let e = add_counted(out, d, b", milliseconds: ", ms);
     moves::ended(out, e, b)
 }

@@ -54,7 +54,8 @@ fn pair(desk: &Kept, chip: &Kept, fresh: &mut Fresh, out: &mut Output, b: Bus, v
     let told = ending::tell(desk, chip, fresh, out, b);
     let s = settings_of(v);
     let o = start_with(s, desk);
-    let k = ends::fresh_pair(told, o.state, wide(v[5]));
+    let is_started = o.answer == base::answer::DONE;
+    let k = ends::fresh_pair(told, o.state, wide(v[5]), is_started);
     tell_start(out, k, s, o)
 }
 

@@ -1,9 +1,10 @@
 // The words of the story. Each function answers the index past what it laid, as those of `text::lay` do.
 use base::answer;
-use frame::Heard;
 use state::Link;
 use state::Outcome;
 use state::Settings;
+use text::heard;
+use text::heard::add_counted;
 use text::lay::Output;
 use text::lay::add;
 use text::lay::add_digits;
@@ -27,12 +28,6 @@ pub fn add_clock(out: &mut Output, at: usize, clock: u32) -> usize {
     let a = add(out, at, b"[");
     let b = add_digits(out, a, of_wide(clock));
     add(out, b, b"] ")
-}
-
-// A number behind a word and a space.
-pub fn add_counted(out: &mut Output, at: usize, word: &[u8], number: u64) -> usize {
-    let a = add(out, at, word);
-    add_digits(out, a, number)
 }
 
 // ---- packets
@@ -97,29 +92,6 @@ pub fn add_packet(out: &mut Output, at: usize, packet: &[u8]) -> usize {
 
 // ---- frames
 
-fn add_data(out: &mut Output, at: usize, number: u8, nak: bool, acknowledged: u8) -> usize {
-    let a = add_counted(out, at, b"data ", of_small(number));
-    if nak {
-        return add_counted(out, a, b" nak ", of_small(acknowledged));
-    }
-    add_counted(out, a, b" ack ", of_small(acknowledged))
-}
-
-fn add_heard(out: &mut Output, at: usize, h: Heard, count: u64) -> usize {
-    match h {
-        Heard::Reset => add(out, at, b"reset"),
-        Heard::Ack(k) => add_counted(out, at, b"ack ", of_small(k)),
-        Heard::Nak(k) => add_counted(out, at, b"nak ", of_small(k)),
-        Heard::Data {
-            number,
-            nak,
-            acknowledged,
-            length: _,
-        } => add_data(out, at, number, nak, acknowledged),
-        _ => add_noise(out, at, count),
-    }
-}
-
 fn add_noise(out: &mut Output, at: usize, count: u64) -> usize {
     let a = add_counted(out, at, b"noise (", count);
     add(out, a, b" bytes)")
@@ -127,7 +99,11 @@ fn add_noise(out: &mut Output, at: usize, count: u64) -> usize {
 
 // A frame as an end with that D hears it.
 pub fn add_frame(out: &mut Output, at: usize, d: u16, frame: &[u8]) -> usize {
-    add_heard(out, at, frame::hear(d, frame), frame.len() as u64)
+    let heard = frame::hear(d, frame);
+    if frame::refusal(heard) == answer::DONE {
+        return heard::add_heard(out, at, heard);
+    }
+    add_noise(out, at, frame.len() as u64)
 }
 
 // ---- what a call came to

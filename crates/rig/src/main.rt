@@ -1,14 +1,13 @@
 // Reads a script of calls on one end of the link and on one joining, and prints a line for each call: docs/RIG.md.
-mod buffers;
-mod order;
 mod printed;
-mod session;
 
-use buffers::FRESH;
-use buffers::Fresh;
-use buffers::KEPT;
-use buffers::Kept;
-use session::Session;
+use script::buffers::FRESH;
+use script::buffers::Fresh;
+use script::buffers::KEPT;
+use script::buffers::Kept;
+use script::order;
+use script::session;
+use script::session::Session;
 use text::field::Bytes;
 use text::field::MOST_BYTES;
 use text::lay::OUTPUT;

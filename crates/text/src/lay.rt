@@ -8,8 +8,8 @@ pub const OUTPUT: usize = 65536;
 // What waits to be written.
 pub type Output = [u8; OUTPUT];
 
-// More than the longest line of a program: two buffers of 4,096 bytes, or one of 8,192, in digits, and 22 numbers.
-const LONGEST: usize = 17000;
+// More than the longest line of a program: a line that was read, two buffers of 4,096 bytes, or one of 8,192, in digits, and 22 numbers.
+const LONGEST: usize = 40000;
 
 // ---- writing out
 

@@ -1,5 +1,6 @@
 // What the programs share: lines of standard input, their fields, and text for standard output.
 pub mod field;
+pub mod heard;
 pub mod lay;
 pub mod lines;
 pub mod talk;

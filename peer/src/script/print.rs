@@ -46,6 +46,19 @@ fn link_line(rig: &Rig, outcome: &Outcome, out: &mut Vec<u8>) {
 }
 
 fn join_line(rig: &Rig, joined: &Joined, out: &mut Vec<u8>) {
+    join_numbers(joined, out);
+    out.push(b' ');
+    hex(rig.room(), out);
+}
+
+fn cut_line(rig: &Rig, piece: &Piece, out: &mut Vec<u8>) {
+    cut_numbers(piece, out);
+    out.push(b' ');
+    hex(rig.packet(), out);
+}
+
+/// ANSWER LENGTH FAULT OPEN JOINED
+pub(crate) fn join_numbers(joined: &Joined, out: &mut Vec<u8>) {
     let told = [
         joined.answer.into(),
         joined.length.into(),
@@ -54,15 +67,12 @@ fn join_line(rig: &Rig, joined: &Joined, out: &mut Vec<u8>) {
         joined.joining.joined.into(),
     ];
     numbers(&told, out);
-    out.push(b' ');
-    hex(rig.room(), out);
 }
 
-fn cut_line(rig: &Rig, piece: &Piece, out: &mut Vec<u8>) {
+/// ANSWER LENGTH COUNT
+pub(crate) fn cut_numbers(piece: &Piece, out: &mut Vec<u8>) {
     let told = [piece.answer.into(), piece.length.into(), piece.count.into()];
     numbers(&told, out);
-    out.push(b' ');
-    hex(rig.packet(), out);
 }
 
 /// Numbers apart by one space.

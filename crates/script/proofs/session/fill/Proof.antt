@@ -1,11 +1,11 @@
--- `rig::session::fill` is safe and ends.
+-- `script::session::fill` is safe and ends.
 -- Assumes nothing.
 use mathlib.Core.Path.{_≡_}
 use Prim.Native.Nat.{_-_}
 use lib.ListN.{length}
 use borrow.Author.Needs.{needs}
-use Rattle.rig.proofs.session.fill.Statement.{statement}
-use Rattle.rig.proofs.session.fill.Tie as tie
+use Rattle.script.proofs.session.fill.Statement.{statement}
+use Rattle.script.proofs.session.fill.Tie as tie
 
 abbrev Inv-loop : tie.InvT-loop
 Inv-loop buffer₀ byte i₀ buffer i = length buffer ≡ length buffer₀
