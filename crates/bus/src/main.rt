@@ -6,6 +6,7 @@ mod order;
 mod rounds;
 mod shelf;
 mod story;
+mod timers;
 mod words;
 
 use ends::Bus;

@@ -5,19 +5,17 @@ use crate::ends::Bus;
 use crate::ends::Fresh;
 use crate::moves;
 use crate::shelf::Kept;
-use crate::words;
-use state::Link;
+use crate::timers;
 use text::field::Bytes;
 use text::heard::add_counted;
 use text::lay::Output;
 use text::lay::add;
 use text::lay::of_wide;
-ghost use Prim.Native.Nat.{_≤_, _<_};
 
 // ---- carrying
 
 // The first frame on its way to the desk, or to the chip, arrives.
-pub fn carry(
+fn carry_one(
     desk: &mut Kept,
     chip: &mut Kept,
     bytes: &mut Bytes,
@@ -51,7 +49,7 @@ fn carry_next(
         return b;
     }
     // From the longer queue, so that the other has room for what comes of it.
-    carry(
+    carry_one(
         desk,
         chip,
         bytes,
@@ -81,64 +79,7 @@ fn carry_all(
 
 // ---- the clock
 
-const NEVER: u32 = u32::MAX;
-
-fn left_of(timeout: u16, start: u32, ms: u32) -> u32 {
-    let elapsed = std::num::wrapping_sub_u32(ms, start);
-    if (timeout as u32) <= elapsed {
-        return 0;
-    }
-    timeout as u32 - elapsed
-}
-
-fn slot_of(window: u8, number: u8) -> usize
-    ensures { λ r. ⌜ r < 2 ⌝ }
-{
-    if window == 1 {
-        0
-    } else {
-        (number % 2) as usize
-    }
-}
-
-// The milliseconds that are left to the waiting packet that n others were sent after.
-fn packet_left(l: Link, n: u8, ms: u32) -> u32
-    requires { ⌜ n ≤ 3 ⌝ }
-{
-    if l.waiting <= n {
-        return NEVER;
-    }
-    let number = state::sent_before(l, n);
-    let slot = slot_of(l.settings.window, number);
-    left_of(l.settings.transmit, l.starts[slot], ms)
-}
-
-fn acknowledge_left(l: Link, ms: u32) -> u32 {
-    if l.acking {
-        return left_of(l.settings.acknowledge, l.ackstart, ms);
-    }
-    NEVER
-}
-
-fn sooner(a: u32, b: u32) -> u32 {
-    if a < b { a } else { b }
-}
-
-fn link_left(l: Link, ms: u32) -> u32 {
-    let packet = sooner(packet_left(l, 0, ms), packet_left(l, 1, ms));
-    sooner(packet, acknowledge_left(l, ms))
-}
-
-// How far off the first moment is at which a timer is due.
-fn first_due(b: Bus) -> u32 {
-    let soonest = sooner(
-        link_left(b.here.link, b.clock),
-        link_left(b.there.link, b.clock),
-    );
-    if soonest == NEVER { 0 } else { soonest }
-}
-
-pub fn pass(b: Bus, ms: u32) -> Bus {
+fn pass(b: Bus, ms: u32) -> Bus {
     let mut k = b;
     k.clock = std::num::wrapping_add_u32(b.clock, ms);
     k.passed = std::num::wrapping_add_u64(b.passed, ms as u64);
@@ -161,12 +102,8 @@ pub fn tell_pass(out: &mut Output, b: Bus, ms: u32) -> Bus {
 // Two packets and an acknowledgement can be due at one end.
 const LOOKS: usize = 4;
 
-fn is_due(l: Link, ms: u32) -> bool {
-    link_left(l, ms) == 0
-}
-
 fn look_if_due(here: &Kept, there: &mut Kept, fresh: &mut Fresh, out: &mut Output, b: Bus) -> Bus {
-    if is_due(b.here.link, b.clock) & (b.here.link.lost == false) {
+    if timers::is_due(b.here.link, b.clock) & (b.here.link.lost == false) {
         return moves::look(here, there, fresh, out, b);
     }
     b
@@ -202,7 +139,7 @@ pub fn round(
 ) -> Bus {
     let begun = tell_round(out, b);
     let carried = carry_all(desk, chip, bytes, fresh, out, begun);
-    let ms = first_due(carried);
+    let ms = timers::first_due(carried.here.link, carried.there.link, carried.clock);
     let later = tell_pass(out, carried, ms);
     let looked = look_all(desk, chip, fresh, out, later);
     ends::turned(look_all(chip, desk, fresh, out, ends::turned(looked)))
