@@ -1,11 +1,14 @@
--- Laws of `put`, for whoever writes into a lent buffer. Assumes nothing.
+-- Laws of `put`, for whoever writes into a lent buffer, and of one element stored. Assumes nothing.
 use mathlib.Core.Path.{_≡_, refl, sym, ap, subst, _∙_}
 use mathlib.Core.List.{List, [], _++_, append-assoc, append-nil}
+use mathlib.Core.Bool.{Bool, true, false}
 use Prim.Native.Nat.{ℕ, _+_, _-_, _≤_}
 use native.Mathlib.Nat.{zero-add, add-assoc}
 use native.Mathlib.Omega.{arith}
-use lib.ListN.{length, take, drop, length-append, length-take, length-drop, drop-of-length-le}
-use lib.Seq.{take-length, drop-drop, drop-append-add, take-at, drop-at, take-add, take-take, take-append-le, take-append-seam, sets, sets-eq, length-take-le}
+use borrow.Author.Tests.{eqb-true, eqb-false, ltb-true, ltb-false}
+use lib.Dec.{eqb, ltb}
+use lib.ListN.{length, take, drop, getD, set, length-append, length-take, length-drop, drop-of-length-le}
+use lib.Seq.{take-length, drop-drop, drop-append-add, take-at, drop-at, take-add, take-take, take-append-le, take-append-seam, sets, sets-eq, length-take-le, getD-set-same, getD-set-other, set-out}
 use Rattle.base.specs.Buffer.{put}
 
 pub put-length : (d s : List ℕ) (at : ℕ) → at + length s ≤ length d → length (put d at s) ≡ length d
@@ -96,3 +99,16 @@ put-behind d s at a h l =
     ∙ subst (λ k. drop k ((take at d ++ s) ++ drop n d) ≡ drop (a - n) (drop n d)) (sym e) (drop-append-add (take at d ++ s) (drop n d) (a - n))
     ∙ drop-drop (a - n) n d
     ∙ ap (λ (k : ℕ). drop k d) back
+
+-- ---- one element stored
+
+-- what holds of the element stored, where it is that one, and of the element before, holds of the element after
+pub set-cases : (P : ℕ → Type 0) (xs : List ℕ) (at i x : ℕ) → (i ≡ at → P x) → P (getD xs i 0) → P (getD (set xs at x) i 0)
+set-cases P xs at i x stored kept = go (eqb i at) (ltb at (length xs)) refl refl
+  where
+    go : (same inside : Bool) → eqb i at ≡ same → ltb at (length xs) ≡ inside → P (getD (set xs at x) i 0)
+    go true true e h =
+        subst (λ k. P (getD (set xs at x) k 0)) (sym (eqb-true i at e))
+        (subst P (sym (getD-set-same xs at x 0 (ltb-true at (length xs) h))) (stored (eqb-true i at e)))
+    go true false e h = subst (λ (y : List ℕ). P (getD y i 0)) (sym (set-out xs at x (ltb-false at (length xs) h))) kept
+    go false inside e h = subst P (sym (getD-set-other xs at i x 0 (eqb-false i at e))) kept

@@ -16,6 +16,18 @@ pub and-right : (a b : Bool) → (a && b) ≡ true → b ≡ true
 and-right true b e = e
 and-right false b e = cc
 
+pub and-both : (a b : Bool) → a ≡ true → b ≡ true → (a && b) ≡ true
+and-both true b p q = q
+and-both false b p q = p
+
+pub or-first : (a b : Bool) → a ≡ true → (a || b) ≡ true
+or-first true b e = refl
+or-first false b e = cc
+
+pub or-second : (a b : Bool) → b ≡ true → (a || b) ≡ true
+or-second true b e = refl
+or-second false b e = e
+
 pub or-right : (a b : Bool) → (a || b) ≡ true → a ≡ false → b ≡ true
 or-right true b e n = cc
 or-right false b e n = e
@@ -35,6 +47,11 @@ cond-true false a b e = cc
 pub cond-false : {A : Type 0} (t : Bool) (a b : A) → t ≡ false → cond t a b ≡ b
 cond-false true a b e = cc
 cond-false false a b e = refl
+
+-- what holds of each outcome, where the test came out so, holds of what the test chooses
+pub cond-cases : {A : Type 0} (P : A → Type 0) (t : Bool) (a b : A) → (t ≡ true → P a) → (t ≡ false → P b) → P (cond t a b)
+cond-cases P true a b p q = p refl
+cond-cases P false a b p q = q refl
 
 pub within-low : (low x high : ℕ) → within low x high ≡ true → low ≤ x
 within-low low x high e = leb-true low x (and-left (leb low x) (leb x high) e)
@@ -61,6 +78,13 @@ firstOf-left a b e = go (eqb a done) refl e
 
 pub firstOf-right : (a b : ℕ) → firstOf a b ≡ done → b ≡ done
 firstOf-right a b e = sym (cond-true (eqb a done) b a (eq-eqb a done (firstOf-left a b e))) ∙ e
+
+-- a gate of four tests, open
+pub firstOf-four : (a b c d : ℕ) → firstOf a (firstOf b (firstOf c d)) ≡ done → (a ≡ done) × (b ≡ done) × (c ≡ done) × (d ≡ done)
+firstOf-four a b c d e =
+    let inner : firstOf b (firstOf c d) ≡ done = firstOf-right a (firstOf b (firstOf c d)) e in
+    let last : firstOf c d ≡ done = firstOf-right b (firstOf c d) inner in
+    (firstOf-left a (firstOf b (firstOf c d)) e, firstOf-left b (firstOf c d) inner, firstOf-left c d last, firstOf-right c d last)
 
 -- the first answer refuses
 pub firstOf-refused : (a b : ℕ) → (a ≡ done → ⊥) → firstOf a b ≡ a

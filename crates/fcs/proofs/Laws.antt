@@ -1,4 +1,4 @@
--- What the rooms above cite of the checksum: it is below 65,536, and it goes on from one list to the next. Assumes nothing.
+-- What the crates above may cite of the checksum: it is below 65,536, and it goes on from one list to the next. Assumes nothing.
 use mathlib.Core.Path.{_≡_, refl}
 use mathlib.Core.Bool.{Bool, true, false}
 use mathlib.Core.List.{List, [], _∷_, _++_}

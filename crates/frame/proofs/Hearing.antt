@@ -1,16 +1,16 @@
 -- What hearing cites, and that what was written is heard. Assumes nothing.
 use mathlib.Core.Path.{_≡_, refl, ap, _∙_}
-use mathlib.Core.Bool.{Bool, true, false, true≢false, cond, not, _&&_, _||_, and-true}
+use mathlib.Core.Bool.{Bool, true, false, true≢false, not, _&&_, _||_, and-true}
 use mathlib.Core.List.{List, [], _∷_, _++_}
 use Prim.Native.Nat.{ℕ, zero, suc, _+_, _-_, _*_, _/_, _%_, _≤_}
 use native.Mathlib.Numerals.{add-one}
 use native.Mathlib.Omega.{arith}
-use borrow.Author.Tests.{eqb-true, le-ltb, le-leb, lt-leb, eq-eqb, ne-eqb}
+use borrow.Author.Tests.{eqb-true, not-false, le-ltb, le-leb, lt-leb, eq-eqb, ne-eqb}
 use lib.ListN.{length, take, drop, getD}
 use lib.Seq.{drop-cons, take-append-seam, drop-append-seam}
 use lib.Dec.{eqb, ltb}
 use Rattle.fcs.specs.Checksum.{checksumOf}
-use Rattle.base.proofs.Tests.{or-right-false}
+use Rattle.base.proofs.Tests.{or-right-false, cond-cases}
 use Rattle.frame.specs.declared.Heard.{Heard}
 use Rattle.frame.specs.declared.Heard.the-variants.{Size, Sum, Code, ControlSize, Length, Reset, Ack, Nak, Data}
 use Rattle.frame.specs.Bytes.{lenBytes, fcsBytes, sealed, frameOf, resetFrame}
@@ -117,25 +117,18 @@ pub packet-heard : PacketHeard
 unfolding frameOf sealed
 packet-heard number acknowledged packet = take-append-seam packet _
 
-either : (P : Heard → Type 0) (t : Bool) (a b : Heard) → (t ≡ true → P a) → (t ≡ false → P b) → P (cond t a b)
-either P true a b p q = p refl
-either P false a b p q = q refl
-
 -- step 4 passed, of a data frame
 even : (control : Bool) (len size : ℕ) → control ≡ false → (not control && (eqb len 0 || not (eqb len (size - 5)))) ≡ false → len ≡ size - 5
 even true len size c e = absurd (true≢false c)
-even false len size c e = go (eqb len (size - 5)) refl (or-right-false (eqb len 0) (not (eqb len (size - 5))) e)
-  where
-    go : (t : Bool) → eqb len (size - 5) ≡ t → not t ≡ false → len ≡ size - 5
-    go true q n = eqb-true len (size - 5) q
-    go false q n = absurd (true≢false n)
+even false len size c e =
+    eqb-true len (size - 5) (not-false (eqb len (size - 5)) (or-right-false (eqb len 0) (not (eqb len (size - 5))) e))
 
 accepted-holds : (P : Heard → Type 0) (fctr len : ℕ) → P Reset → P (Ack (acknowledgedOf fctr)) → P (Nak (acknowledgedOf fctr))
     → (isControl fctr ≡ false → P (Data (numberOf fctr) (isNak fctr) (acknowledgedOf fctr) len)) → P (accepted fctr len)
 unfolding accepted
 accepted-holds P fctr len reset ack nak datum =
-    either P (isControl fctr) _ _
-    (λ c. either P (isReset fctr) _ _ (λ r. reset) (λ r. either P (isNak fctr) _ _ (λ n. nak) (λ n. ack)))
+    cond-cases P (isControl fctr) _ _
+    (λ c. cond-cases P (isReset fctr) _ _ (λ r. reset) (λ r. cond-cases P (isNak fctr) _ _ (λ n. nak) (λ n. ack)))
     datum
 
 -- what holds of each refusal and of each frame that passes, a data frame's LEN being its size − 5, holds of whatever is heard
@@ -145,11 +138,11 @@ heard-holds : (P : Heard → Type 0) (d : ℕ) (frame : List ℕ) → P Size →
     → P (heard d frame)
 unfolding heard judged
 heard-holds P d frame size sum code control len reset ack nak datum =
-    either P (ltb (length frame) 5 || ltb d (length frame)) _ _ (λ e. size)
-    (λ e. either P (not (fcsAt (length frame - 2) frame)) _ _ (λ f. sum)
-    (λ f. either P (not (used (fctrOf frame))) _ _ (λ u. code)
-    (λ u. either P (isControl (fctrOf frame) && (not (eqb (length frame) 5) || not (eqb (lenOf frame) 0))) _ _ (λ c. control)
-    (λ c. either P (not (isControl (fctrOf frame)) && (eqb (lenOf frame) 0 || not (eqb (lenOf frame) (length frame - 5)))) _ _ (λ l. len)
+    cond-cases P (ltb (length frame) 5 || ltb d (length frame)) _ _ (λ e. size)
+    (λ e. cond-cases P (not (fcsAt (length frame - 2) frame)) _ _ (λ f. sum)
+    (λ f. cond-cases P (not (used (fctrOf frame))) _ _ (λ u. code)
+    (λ u. cond-cases P (isControl (fctrOf frame) && (not (eqb (length frame) 5) || not (eqb (lenOf frame) 0))) _ _ (λ c. control)
+    (λ c. cond-cases P (not (isControl (fctrOf frame)) && (eqb (lenOf frame) 0 || not (eqb (lenOf frame) (length frame - 5)))) _ _ (λ l. len)
     (λ l. accepted-holds P (fctrOf frame) (lenOf frame) reset ack nak (λ k. datum (even (isControl (fctrOf frame)) (lenOf frame) (length frame) k l)))))))
 
 pub number-heard : NumberHeard

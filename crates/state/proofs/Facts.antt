@@ -1,20 +1,22 @@
 -- The tests of the state as plain facts, and back. Assumes nothing.
-use mathlib.Core.Path.{_≡_, refl, sym}
+use mathlib.Core.Path.{_≡_, refl, sym, ap}
 use mathlib.Core.Bool.{Bool, true, false, cond, _&&_, _||_}
-use Prim.Native.Nat.{ℕ, zero, suc, _+_, _-_, _*_, _<_, _≤_}
+use mathlib.Core.List.{List}
+use Prim.Native.Nat.{ℕ, zero, suc, _+_, _-_, _*_, _%_, _<_, _≤_}
 use native.Mathlib.Nat.{mod-lt, mul-le-mul-right, suc-mul}
 use native.Mathlib.Omega.{arith}
-use borrow.Author.Tests.{leb-true, ltb-true, ltb-false, leb-false, le-leb, lt-ltb, le-ltb, eq-eqb, ne-eqb}
+use borrow.Author.Tests.{leb-true, ltb-true, ltb-false, leb-false, eqb-true, eqb-false, le-leb, lt-ltb, le-ltb, eq-eqb, ne-eqb}
 use lib.ListN.{getD}
 use lib.Dec.{leb, ltb, eqb}
 use Rattle.base.specs.Range.{within}
 use Rattle.base.specs.Answer.{done, outOfRange, shortBuffer, linkLost}
-use Rattle.base.proofs.Tests.{and-left, and-right, or-right, or-left-false, or-right-false, within-low, within-high, passed, spared, firstOf-left, firstOf-right}
+use Rattle.base.proofs.Tests.{and-left, and-right, or-right, or-left-false, or-right-false, cond-cases, within-low, within-high, passed, spared, firstOf-left, firstOf-right}
 use Rattle.state.specs.declared.Settings.{Settings}
 use Rattle.state.specs.declared.Link.{Link}
+use Rattle.state.specs.declared.Outcome.{Outcome}
 use Rattle.state.specs.Bounds.{limitOf, inRange, slotsNeed, frameNeed}
 use Rattle.state.specs.State.{sentBefore, slotOf, lengthOf, lengthOk, numbersOk, wellFormed}
-use Rattle.state.specs.Gate.{entryOf, gateOf}
+use Rattle.state.specs.Gate.{After, refused, gated, entryOf, gateOf}
 use Rattle.state.specs.Timer.{elapsed, left, due, onward}
 use Rattle.state.specs.Formed.{InRange, Length, Formed, Entered, Open}
 
@@ -65,6 +67,16 @@ facts-inRange s f =
 
 pub slotOf-lt : (l : Link) (number : ℕ) → 1 ≤ l .settings .window → slotOf l number < l .settings .window
 slotOf-lt l number h = mod-lt number h
+
+pub slotOf-small : (l : Link) (number : ℕ) → InRange (l .settings) → slotOf l number < 2
+slotOf-small l number r = omega (arith, slotOf-lt l number (r .window-lo), r .window-hi)
+
+-- in a window of two the packet before the next has the other slot
+pub slots-apart : (l : Link) (k : ℕ) → l .settings .window ≡ 2 → sentBefore l 0 ≡ k → slotOf l k ≡ slotOf l (l .next) → ⊥
+slots-apart l k two e q =
+    let a : slotOf l k ≡ k % 2 = ap (λ (x : ℕ). k % x) two in
+    let b : slotOf l (l .next) ≡ l .next % 2 = ap (λ (x : ℕ). l .next % x) two in
+    omega arith
 
 -- a slot's part lies in the slot buffer, for any window and packet limit
 pub part-inside : (slot window m length slots : ℕ) → slot < window → length ≤ m → window * m ≤ slots → slot * m + length ≤ slots
@@ -183,6 +195,18 @@ gateOf-facts l slots frame e =
       entered = entryOf-facts l slots frame (firstOf-left (entryOf l slots frame) (cond (l .lost) linkLost done) e);
       alive = spared (l .lost) linkLost (omega arith) (firstOf-right (entryOf l slots frame) (cond (l .lost) linkLost done) e);
     }
+
+-- behind it a control frame has its five bytes
+pub control-fits : (l : Link) (slots frame : ℕ) → Entered l slots frame → 5 ≤ frame
+control-fits l slots frame e = omega (arith, e .frame-room, e .formed .settings)
+
+pub gated-cases : (P : After Outcome → Type 0) (g : ℕ) (l : Link) (slots frame : List ℕ) (inside : After Outcome) → (g ≡ done → P inside)
+    → ((g ≡ done → ⊥) → P (refused l g slots frame)) → P (gated g l slots frame inside)
+gated-cases P g l slots frame inside opened shut =
+    cond-cases P (eqb g done) inside (refused l g slots frame) (λ e. opened (eqb-true g done e)) (λ e. shut (eqb-false g done e))
+
+pub gated-open : (g : ℕ) (l : Link) (slots frame : List ℕ) (inside : After Outcome) → g ≡ done → gated g l slots frame inside ≡ inside
+gated-open g l slots frame inside e = rw (eq-eqb g done e)
 
 -- ---- timers
 

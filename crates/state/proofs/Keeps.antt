@@ -1,22 +1,23 @@
 -- Which changes keep a sound state sound, and that start and resynchronise do. Assumes nothing.
-use mathlib.Core.Path.{_≡_, refl}
+use mathlib.Core.Path.{_≡_, refl, _∙_}
 use mathlib.Core.Bool.{Bool, true, false, cond, not}
 use mathlib.Core.List.{List}
 use Prim.Native.Nat.{ℕ, zero, suc, _<_, _≤_}
 use native.Mathlib.Omega.{arith}
-use borrow.Author.Tests.{eqb-true, le-ltb}
+use borrow.Author.Tests.{le-ltb}
 use lib.ListN.{length, getD}
-use lib.Dec.{eqb, ltb}
-use Rattle.base.specs.Answer.{done, outOfRange, shortBuffer}
+use lib.Dec.{ltb}
+use Rattle.base.specs.Answer.{done, outOfRange, shortBuffer, linkLost}
+use Rattle.base.proofs.Tests.{cond-false}
 use Rattle.state.specs.declared.Settings.{Settings}
 use Rattle.state.specs.declared.Link.{Link}
 use Rattle.state.specs.declared.Outcome.{Outcome}
 use Rattle.state.specs.Bounds.{inRange, slotsNeed, frameNeed}
 use Rattle.state.specs.State.{freshOf}
-use Rattle.state.specs.Gate.{After, only, refused, gated, entryOf, gateOf}
+use Rattle.state.specs.Gate.{After, only, gated, entryOf, gateOf}
 use Rattle.state.specs.Calls.{zeros, started, resetSent, resynchronised}
 use Rattle.state.specs.Formed.{InRange, Formed, Sound}
-use Rattle.state.proofs.Facts.{inRange-facts, wellFormed-facts, facts-wellFormed}
+use Rattle.state.proofs.Facts.{inRange-facts, wellFormed-facts, facts-wellFormed, gated-cases}
 
 -- ---- changes of a state
 
@@ -90,17 +91,17 @@ fresh-sound s r =
 
 pub gated-sound : (answer : ℕ) (l : Link) (slots frame : List ℕ) (inside : After Outcome) → Sound l
     → (answer ≡ done → Sound (inside .told .state)) → Sound (gated answer l slots frame inside .told .state)
-gated-sound answer l slots frame inside s f = go (eqb answer done) refl
-  where
-    go : (t : Bool) → eqb answer done ≡ t → Sound (cond t inside (refused l answer slots frame) .told .state)
-    go true e = f (eqb-true answer done e)
-    go false e = s
+gated-sound answer l slots frame inside s f = gated-cases (λ a. Sound (a .told .state)) answer l slots frame inside f (λ n. s)
 
--- a sound end that is not lost passes it, with buffers that are long enough
+-- with buffers that are long enough only the lost mark is left to stop a sound end
+pub sound-gate : (l : Link) (slots frame : ℕ) → Sound l → slotsNeed (l .settings) ≤ slots → frameNeed (l .settings) ≤ frame
+    → gateOf l slots frame ≡ cond (l .lost) linkLost done
+unfolding gateOf entryOf
+sound-gate l slots frame s h k = rw (s .formed, le-ltb slots (slotsNeed (l .settings)) h, le-ltb frame (frameNeed (l .settings)) k)
+
 pub sound-open : (l : Link) (slots frame : ℕ) → Sound l → l .lost ≡ false → slotsNeed (l .settings) ≤ slots → frameNeed (l .settings) ≤ frame
     → gateOf l slots frame ≡ done
-unfolding gateOf entryOf
-sound-open l slots frame s alive h k = rw (s .formed, le-ltb slots (slotsNeed (l .settings)) h, le-ltb frame (frameNeed (l .settings)) k, alive)
+sound-open l slots frame s alive h k = sound-gate l slots frame s h k ∙ cond-false (l .lost) linkLost done alive
 
 -- ---- start and resynchronise
 

@@ -3,15 +3,13 @@
 use mathlib.Core.Path.{sym, _∙_}
 use borrow.Author.Tests.{ne-eqb, eq-eqb}
 use Rattle.state.specs.Calls.{resynchronised}
-use Rattle.state.proofs.Facts.{entryOf-facts}
-use native.Mathlib.Omega.{arith}
+use Rattle.state.proofs.Facts.{entryOf-facts, control-fits}
 use borrow.Author.Needs.{needs}
 use Rattle.state.proofs.resynchronise.Statement.{statement}
 use Rattle.state.proofs.resynchronise.Tie as tie
 
 send-reset-requires : tie.Need-send-reset-requires
-send-reset-requires c κs = let e = entryOf-facts _ _ _ (sym (c .before .before .entry .ensures) ∙ c .before .if1 .taken) in
-    omega (arith, e .frame-room, e .formed .settings)
+send-reset-requires c κs = control-fits _ _ _ (entryOf-facts _ _ _ (sym (c .before .before .entry .ensures) ∙ c .before .if1 .taken))
 
 returns : tie.Need-returns
 unfolding resynchronised
