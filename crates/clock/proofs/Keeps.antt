@@ -1,13 +1,14 @@
 -- Looking at the clock and acknowledging keep an end's state sound. Assumes nothing.
-use mathlib.Core.Path.{_≡_, refl}
 use mathlib.Core.Bool.{Bool, true, false, cond}
 use mathlib.Core.List.{List}
 use Prim.Native.Nat.{ℕ}
 use lib.ListN.{length}
 use Rattle.base.specs.Answer.{done}
+use Rattle.base.proofs.Tests.{cond-cases}
 use Rattle.state.specs.declared.Link.{Link}
+use Rattle.state.specs.declared.Outcome.{Outcome}
 use Rattle.state.specs.State.{sentBefore}
-use Rattle.state.specs.Gate.{gateOf}
+use Rattle.state.specs.Gate.{After, gateOf}
 use Rattle.state.specs.Formed.{Sound}
 use Rattle.state.proofs.Keeps.{marked-sound, gated-sound}
 use Rattle.send.specs.Repeat.{mayRepeat}
@@ -16,12 +17,10 @@ use Rattle.send.proofs.Keeps.{again-sound, quiet-sound}
 use Rattle.clock.specs.Look.{packetDue, acknowledgeDue, afterOldest, exhausted, served, acknowledgedIf, lookedAt, looked, acknowledgedNow}
 
 served-sound : (l : Link) (slots frame : List ℕ) (ms number : ℕ) → Sound l → Sound (served l slots frame ms number .told .state)
-served-sound l slots frame ms number s = go (mayRepeat l number) refl
-  where
-    go : (t : Bool) → mayRepeat l number ≡ t
-        → Sound (cond t (ends (sendsRepeat l slots frame ms number) done 0 slots) (exhausted l slots frame) .told .state)
-    go true e = again-sound l number ms s e
-    go false e = marked-sound l (l .ackstart) (l .acking) (l .naked) true s
+served-sound l slots frame ms number s =
+    cond-cases (λ (a : After Outcome). Sound (a .told .state)) (mayRepeat l number)
+    (ends (sendsRepeat l slots frame ms number) done 0 slots) (exhausted l slots frame)
+    (λ e. again-sound l number ms s e) (λ e. marked-sound l (l .ackstart) (l .acking) (l .naked) true s)
 
 acknowledgedIf-sound : (owed : Bool) (l : Link) (slots frame : List ℕ) → Sound l → Sound (acknowledgedIf owed l slots frame .told .state)
 acknowledgedIf-sound true l slots frame s = quiet-sound l s

@@ -4,13 +4,11 @@ use mathlib.Core.Bool.{Bool, true, false, cond}
 use mathlib.Core.List.{List, [], _∷_, append-nil}
 use Prim.Native.Nat.{ℕ, _%_, _+_, _-_, _*_, _≤_, _<_}
 use native.Mathlib.Omega.{arith}
-use borrow.Author.Tests.{eqb-true, eqb-false, ne-eqb, eq-eqb}
+use borrow.Author.Tests.{ne-eqb}
 use lib.ListN.{length, getD, set, length-take, length-drop}
-use lib.Dec.{eqb}
-use Rattle.base.specs.Answer.{done}
 use Rattle.base.proofs.Put.{put-take}
 use Rattle.frame.specs.declared.Heard.the-variants.{Ack, Nak, Data}
-use Rattle.frame.specs.Bytes.{frameOf, dataFrame, ackFrame, nakFrame}
+use Rattle.frame.specs.Bytes.{dataFrame, ackFrame, nakFrame}
 use Rattle.frame.specs.Steps.{heard, packetIn}
 use Rattle.frame.proofs.Writing.{frameOf-length}
 use Rattle.frame.proofs.Hearing.{data-heard, packet-heard, ack-heard, nak-heard}
@@ -19,7 +17,7 @@ use Rattle.state.specs.declared.Link.{Link}
 use Rattle.state.specs.declared.Outcome.{Outcome}
 use Rattle.state.specs.Bounds.{limitOf, slotsNeed}
 use Rattle.state.specs.State.{lastCorrect, sentBefore, slotOf, lengthOf, countOf}
-use Rattle.state.specs.Gate.{After, refused, gated}
+use Rattle.state.specs.Gate.{After}
 use Rattle.state.specs.Formed.{InRange, Formed}
 use Rattle.state.proofs.Facts.{wellFormed-facts, slotOf-lt, part-inside}
 use Rattle.state.proofs.Keeps.{marked-sound}
@@ -44,18 +42,6 @@ pub called-turned : (S : System) (a : After Outcome) (q sent : List (List ℕ)) 
     → called S a q [] [] ≡ turned S (a .told .state) q sent
 called-turned S a q sent e k = rw (e, k, append-nil (S .here .takenIn), append-nil (S .here .delivered))
 
--- behind a gate
-pub gated-cases : (P : After Outcome → Type 0) (g : ℕ) (l : Link) (slots frame : List ℕ) (inside : After Outcome) → (g ≡ done → P inside)
-    → ((g ≡ done → ⊥) → P (refused l g slots frame)) → P (gated g l slots frame inside)
-gated-cases P g l slots frame inside opened shut = go (eqb g done) refl
-  where
-    go : (t : Bool) → eqb g done ≡ t → P (cond t inside (refused l g slots frame))
-    go true e = opened (eqb-true g done e)
-    go false e = shut (eqb-false g done e)
-
-pub gated-open : (g : ℕ) (l : Link) (slots frame : List ℕ) (inside : After Outcome) → g ≡ done → gated g l slots frame inside ≡ inside
-gated-open g l slots frame inside e = rw (eq-eqb g done e)
-
 -- ---- nothing but a frame sent
 
 pub inv-same : (s : Settings) (S : System) → Inv s S → Inv s (turned S (S .here .state) (S .here .queue) [])
@@ -74,7 +60,11 @@ inv-acked s S r I =
     inv-turned s S (l .starts) (l .counts) (l .ackstart) false (l .naked) (l .lost) (ackFrame (lastCorrect l) ∷ []) I (quiet-sound l (I .here .sound)) (I .here .timed)
     (line-ack (s .d) (S .here .takenIn) (ackFrame (lastCorrect l)) (S .there .queue) (ack-heard (s .d) (lastCorrect l) (omega arith) (omega (arith, r .d-lo)) ∙ ap Ack a) (I .toThere))
 
--- the packet that j were sent after lies in the slots, and is as long as the state says
+-- the frame by which the packet that j were sent after is repeated
+abbrev pub repeatOf : Side → ℕ → List ℕ
+repeatOf x j = dataFrame (sentBefore (x .state) j) (lastCorrect (x .state)) (packetOf (x .state) (x .slots) (sentBefore (x .state) j))
+
+-- that packet lies in the slots, and is as long as the state says
 pub waiting-length : (s : Settings) (x : Side) (t : List (List ℕ)) (b g j : ℕ) → Way s x t b g → j < x .state .waiting
     → length (packetOf (x .state) (x .slots) (sentBefore (x .state) j)) ≡ lengthOf (x .state) (sentBefore (x .state) j)
 waiting-length s x t b g j w h =
@@ -86,9 +76,22 @@ waiting-length s x t b g j w h =
     part-inside (slotOf l k) (l .settings .window) (limitOf (l .settings)) (lengthOf l k) (length (x .slots)) (slotOf-lt l k (formed .settings .window-lo)) (formed .lengths j h .most) room in
     simp (length-take, length-drop) (omega arith)
 
--- so its frame is heard as it is meant
+-- so the frame has 1 to D bytes
+pub repeat-size : (s : Settings) (x : Side) (t : List (List ℕ)) (b g j : ℕ) → InRange s → Way s x t b g → j < x .state .waiting
+    → (1 ≤ length (repeatOf x j)) × (length (repeatOf x j) ≤ s .d)
+repeat-size s x t b g j r w h =
+    let l : Link = x .state in
+    let k : ℕ = sentBefore l j in
+    let packet : List ℕ = packetOf l (x .slots) k in
+    let size : length (repeatOf x j) ≡ length packet + 5 = frameOf-length (k * 4 + lastCorrect l) packet in
+    let formed : Formed l = wellFormed-facts l (w .sound .formed) in
+    let len : length packet ≡ lengthOf l k = waiting-length s x t b g j w h in
+    let d : l .settings .d ≡ s .d = ap (λ (y : Settings). y .d) (w .settings) in
+    (omega arith, omega (arith, formed .lengths j h .most, r .d-lo))
+
+-- and is heard as it is meant
 pub repeat-heard : (s : Settings) (x : Side) (t : List (List ℕ)) (b g j : ℕ) → InRange s → Way s x t b g → j < x .state .waiting
-    → heard (s .d) (dataFrame (sentBefore (x .state) j) (lastCorrect (x .state)) (packetOf (x .state) (x .slots) (sentBefore (x .state) j)))
+    → heard (s .d) (repeatOf x j)
     ≡ Data (sentBefore (x .state) j) false (lastCorrect (x .state)) (length (packetOf (x .state) (x .slots) (sentBefore (x .state) j)))
 repeat-heard s x t b g j r w h =
     let l : Link = x .state in
@@ -101,8 +104,7 @@ repeat-heard s x t b g j r w h =
 
 -- a packet that waits, repeated: the one that j were sent after
 pub inv-repeated : (s : Settings) (S : System) (j ms : ℕ) → IsClock ms → InRange s → Inv s S → j < S .here .state .waiting → mayRepeat (S .here .state) (sentBefore (S .here .state) j) ≡ true
-    → Inv s (turned S (again (S .here .state) (sentBefore (S .here .state) j) ms) (S .here .queue)
-    (dataFrame (sentBefore (S .here .state) j) (lastCorrect (S .here .state)) (packetOf (S .here .state) (S .here .slots) (sentBefore (S .here .state) j)) ∷ []))
+    → Inv s (turned S (again (S .here .state) (sentBefore (S .here .state) j) ms) (S .here .queue) (repeatOf (S .here) j ∷ []))
 inv-repeated s S j ms c r I h may =
     let l : Link = S .here .state in
     let f : ℕ = length (S .here .takenIn) - 1 - j in
@@ -134,10 +136,6 @@ inv-nakked s S r I =
 
 -- ---- how each maker ends a call
 
--- a control frame fits any frame buffer of an open gate
-five : (fctr : ℕ) → length (frameOf fctr []) ≡ 5
-five fctr = frameOf-length fctr []
-
 pub ends-silent : (s : Settings) (S : System) (l : Link) (frame : List ℕ) (q : List (List ℕ)) (answer : ℕ)
     → Inv s (turned S l q []) → Inv s (called S (ends (silent l frame) answer 0 (S .here .slots)) q [] [])
 ends-silent s S l frame q answer I = subst (Inv s) (sym (called-turned S (ends (silent l frame) answer 0 (S .here .slots)) q [] refl refl)) I
@@ -154,7 +152,7 @@ Before s S q = Inv s (restated S (S .here .state) q)
 pub ends-ack : (s : Settings) (S : System) (frame : List ℕ) (q : List (List ℕ)) (answer : ℕ) → InRange s → 5 ≤ length frame → Before s S q
     → Inv s (called S (ends (sendsAck (S .here .state) frame) answer 0 (S .here .slots)) q [] [])
 ends-ack s S frame q answer r h I =
-    ends-sent s S (quiet (S .here .state)) (ackFrame (lastCorrect (S .here .state))) frame q answer (omega (arith, five (0x80 + lastCorrect (S .here .state)))) (omega (arith, five (0x80 + lastCorrect (S .here .state))))
+    ends-sent s S (quiet (S .here .state)) (ackFrame (lastCorrect (S .here .state))) frame q answer (omega (arith, frameOf-length (0x80 + lastCorrect (S .here .state)) [])) (omega (arith, frameOf-length (0x80 + lastCorrect (S .here .state)) []))
     (inv-acked s (restated S (S .here .state) q) r I)
 
 pub ends-nothing : (s : Settings) (S : System) (frame : List ℕ) (q : List (List ℕ)) (answer : ℕ) → Before s S q → Inv s (called S (ends (silent (S .here .state) frame) answer 0 (S .here .slots)) q [] [])
@@ -169,7 +167,7 @@ ends-nak s S frame q answer r h I = go (S .here .state .naked)
 
     go : (t : Bool) → Inv s (called S (ends (cond t (silent (S .here .state) frame) (sends (marked (S .here .state)) (nakFrame k) frame)) answer 0 (S .here .slots)) q [] [])
     go true = ends-nothing s S frame q answer I
-    go false = ends-sent s S (marked (S .here .state)) (nakFrame k) frame q answer (omega (arith, five (0xA0 + k))) (omega (arith, five (0xA0 + k))) (inv-nakked s (restated S (S .here .state) q) r I)
+    go false = ends-sent s S (marked (S .here .state)) (nakFrame k) frame q answer (omega (arith, frameOf-length (0xA0 + k) [])) (omega (arith, frameOf-length (0xA0 + k) [])) (inv-nakked s (restated S (S .here .state) q) r I)
 
 pub ends-repeat : (s : Settings) (S : System) (j ms : ℕ) (frame : List ℕ) (q : List (List ℕ)) (answer : ℕ) → IsClock ms → InRange s → s .d ≤ length frame → Before s S q
     → j < S .here .state .waiting → mayRepeat (S .here .state) (sentBefore (S .here .state) j) ≡ true
@@ -177,11 +175,7 @@ pub ends-repeat : (s : Settings) (S : System) (j ms : ℕ) (frame : List ℕ) (q
 ends-repeat s S j ms frame q answer c r room I h may =
     let l : Link = S .here .state in
     let k : ℕ = sentBefore l j in
-    let packet : List ℕ = packetOf l (S .here .slots) k in
-    let bytes : List ℕ = dataFrame k (lastCorrect l) packet in
-    let size : length bytes ≡ length packet + 5 = frameOf-length (k * 4 + lastCorrect l) packet in
-    let formed : Formed l = wellFormed-facts l (I .here .sound .formed) in
-    let len : length packet ≡ lengthOf l k = waiting-length s (restated S l q .here) (S .there .takenIn) (I .freedHere) (I .gotHere) j (I .here) h in
-    let d : l .settings .d ≡ s .d = ap (λ (x : Settings). x .d) (I .here .settings) in
+    let size : (1 ≤ length (repeatOf (S .here) j)) × (length (repeatOf (S .here) j) ≤ s .d) =
+    repeat-size s (restated S l q .here) (S .there .takenIn) (I .freedHere) (I .gotHere) j r (I .here) h in
     subst (λ (x : Sending). Inv s (called S (ends x answer 0 (S .here .slots)) q [] [])) (sym (repeat-says l (S .here .slots) frame ms k))
-    (ends-sent s S (again l k ms) bytes frame q answer (omega arith) (omega (arith, formed .lengths j h .most, r .d-lo)) (inv-repeated s (restated S l q) j ms c r I h may))
+    (ends-sent s S (again l k ms) (repeatOf (S .here) j) frame q answer (size .0) (omega (arith, size .1, room)) (inv-repeated s (restated S l q) j ms c r I h may))

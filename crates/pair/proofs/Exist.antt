@@ -4,14 +4,13 @@ use mathlib.Core.Bool.{Bool, true, false, cond, not, _&&_}
 use mathlib.Core.List.{List, [], _∷_, _++_}
 use Prim.Native.Nat.{ℕ, zero, suc, _%_, _+_, _*_, _≤_, _<_}
 use native.Mathlib.Omega.{arith}
-use borrow.Author.Tests.{ltb-true, eqb-true, eqb-false, le-ltb}
+use borrow.Author.Tests.{eqb-true, eqb-false}
 use lib.ListN.{length}
 use lib.Dec.{eqb}
 use Rattle.base.specs.Answer.{done, linkLost, unexpected, shortBuffer}
-use Rattle.base.proofs.Tests.{and-left}
 use Rattle.frame.specs.declared.Heard.{Heard}
 use Rattle.frame.specs.declared.Heard.the-variants.{Size, Sum, Code, ControlSize, Length, Reset, Ack, Nak, Data}
-use Rattle.frame.specs.Bytes.{dataFrame, ackFrame, nakFrame}
+use Rattle.frame.specs.Bytes.{ackFrame, nakFrame}
 use Rattle.frame.specs.Steps.{heard, acknowledgedIn}
 use Rattle.frame.proofs.Writing.{frameOf-length}
 use Rattle.frame.proofs.Hearing.{ack-heard, nak-heard, number-heard}
@@ -19,23 +18,23 @@ use Rattle.state.specs.declared.Settings.{Settings}
 use Rattle.state.specs.declared.Link.{Link}
 use Rattle.state.specs.declared.Outcome.{Outcome}
 use Rattle.state.specs.Bounds.{slotsNeed, frameNeed}
-use Rattle.state.specs.State.{lastCorrect, behind, waits, sentBefore, lengthOf}
-use Rattle.state.specs.Gate.{After, gated, entryOf, gateOf}
-use Rattle.state.specs.Formed.{InRange, Formed, Sound}
+use Rattle.state.specs.State.{lastCorrect, sentBefore}
+use Rattle.state.specs.Gate.{After, gated, gateOf}
+use Rattle.state.specs.Timer.{onward}
+use Rattle.state.specs.Formed.{InRange}
 use Rattle.state.proofs.Facts.{wellFormed-facts}
-use Rattle.send.specs.Repeat.{packetOf, mayRepeat}
+use Rattle.state.proofs.Keeps.{sound-gate}
+use Rattle.send.specs.Repeat.{packetOf}
 use Rattle.send.specs.Makers.{silent, ends, sends, quiet, marked, sendsRepeat, sendsNak}
-use Rattle.send.proofs.Facts.{behind-sentBefore}
 use Rattle.receive.specs.Steps.{freed, repeatable, afterDelivery}
 use Rattle.receive.specs.Take.{obeyed, taken}
-use Rattle.receive.proofs.Facts.{data-taken}
+use Rattle.receive.proofs.Facts.{repeatable-holds, data-taken}
 use Rattle.pair.specs.System.{System, swap, sentBy, leftBy, takes, lookOf, looks, IsClock}
-use Rattle.state.specs.Timer.{onward}
 use Rattle.pair.specs.Round.{Enough, dueAt, Carried, head, Carries, none, here, there, carriedIn, Looks, nothing, sends-on, Round, round, Rounds, begin, next}
 use Rattle.pair.specs.Demand3.{RoundsExist, CarryingEnds}
 use Rattle.pair.proofs.Line.{Line, data-next, ack-next, idle-next, Idle, by-size, by-sum, a-nak}
 use Rattle.pair.proofs.Invariant.{Inv, inv-swap}
-use Rattle.pair.proofs.Calls.{sent-frame, waiting-length, repeat-heard}
+use Rattle.pair.proofs.Calls.{sent-frame, repeatOf, repeat-size, repeat-heard}
 use Rattle.pair.proofs.Moves.{moment-range, moment-kept}
 use Rattle.pair.proofs.Measure.{bit, weight, Looked}
 use Rattle.pair.proofs.Timers.{Moved, moved}
@@ -54,16 +53,16 @@ cost ControlSize = 4
 cost Length = 4
 cost Reset = 4
 
-pub cost-some : (h : Heard) → 1 ≤ cost h
-cost-some (Ack k) = omega arith
-cost-some (Data number nak k len) = omega arith
-cost-some (Nak k) = omega arith
-cost-some Size = omega arith
-cost-some Sum = omega arith
-cost-some Code = omega arith
-cost-some ControlSize = omega arith
-cost-some Length = omega arith
-cost-some Reset = omega arith
+pub cost-range : (h : Heard) → (1 ≤ cost h) × (cost h ≤ 4)
+cost-range (Ack k) = omega arith
+cost-range (Data number nak k len) = omega arith
+cost-range (Nak k) = omega arith
+cost-range Size = omega arith
+cost-range Sum = omega arith
+cost-range Code = omega arith
+cost-range ControlSize = omega arith
+cost-range Length = omega arith
+cost-range Reset = omega arith
 
 abbrev pub load : ℕ → List (List ℕ) → ℕ
 load d [] = 0
@@ -73,13 +72,21 @@ pub load-append : (d : ℕ) (p q : List (List ℕ)) → load d (p ++ q) ≡ load
 load-append d [] q = omega arith
 load-append d (x ∷ p) q = omega (arith, load-append d p q)
 
+pub load-most : (d : ℕ) (q : List (List ℕ)) → load d q ≤ 4 * length q
+load-most d [] = omega arith
+load-most d (x ∷ q) = omega (arith, cost-range (heard d x) .1, load-most d q)
+
+-- of both queues
+abbrev pub loads : ℕ → System → ℕ
+loads d S = load d (S .here .queue) + load d (S .there .queue)
+
 -- a take that used its frame up, and answered with less
 pub record Used (d : ℕ) (h : Heard) (a : After Outcome) : Type 0 where
   pub less : load d (sentBy a) + 1 ≤ cost h
   pub gone : eqb (a .told .answer) shortBuffer ≡ false
 
 pub used-nothing : (d : ℕ) (h : Heard) (l : Link) (slots frame : List ℕ) (answer delivered : ℕ) → eqb answer shortBuffer ≡ false → Used d h (ends (silent l frame) answer delivered slots)
-used-nothing d h l slots frame answer delivered e = record { less = omega (arith, cost-some h); gone = e }
+used-nothing d h l slots frame answer delivered e = record { less = omega (arith, cost-range h .0); gone = e }
 
 pub used-sent : (d : ℕ) (h reply : Heard) (l : Link) (bytes slots frame : List ℕ) (answer delivered : ℕ) → eqb answer shortBuffer ≡ false → 1 ≤ length bytes → length bytes ≤ length frame
     → heard d bytes ≡ reply → cost reply + 1 ≤ cost h → Used d h (ends (sends l bytes frame) answer delivered slots)
@@ -115,21 +122,18 @@ used-idle s S frame ms (Nak k) r I room small (a-nak k₁) = go (repeatable l k)
     l : Link
     l = S .here .state
 
+    repeated : (j : ℕ) → j < l .waiting → Used (s .d) (Nak k) (ends (sendsRepeat l (S .here .slots) frame ms (sentBefore l j)) done 0 (S .here .slots))
+    repeated j wait =
+        let packet : List ℕ = packetOf l (S .here .slots) (sentBefore l j) in
+        let size : (1 ≤ length (repeatOf (S .here) j)) × (length (repeatOf (S .here) j) ≤ s .d) =
+        repeat-size s (S .here) (S .there .takenIn) (I .freedHere) (I .gotHere) j r (I .here) wait in
+        used-sent (s .d) (Nak k) (Data (sentBefore l j) false (lastCorrect l) (length packet)) _ (repeatOf (S .here) j) (S .here .slots) frame done 0 refl (size .0) (omega (arith, size .1, room))
+        (repeat-heard s (S .here) (S .there .takenIn) (I .freedHere) (I .gotHere) j r (I .here) wait) (omega arith)
+
     go : (t : Bool) → repeatable l k ≡ t → Used (s .d) (Nak k) (ends (cond t (sendsRepeat l (S .here .slots) frame ms k) (silent l frame)) done 0 (S .here .slots))
     go true e =
-        let formed : Formed l = wellFormed-facts l (I .here .sound .formed) in
-        let same : sentBefore l (behind l k) ≡ k = behind-sentBefore l k (formed .next) small in
-        let wait : behind l k < l .waiting = ltb-true (behind l k) (l .waiting) (and-left (waits l k) (mayRepeat l k) e) in
-        let k₂ : ℕ = sentBefore l (behind l k) in
-        let packet : List ℕ = packetOf l (S .here .slots) k₂ in
-        let bytes : List ℕ = dataFrame k₂ (lastCorrect l) packet in
-        let m : heard (s .d) bytes ≡ Data k₂ false (lastCorrect l) (length packet) = repeat-heard s (S .here) (S .there .takenIn) (I .freedHere) (I .gotHere) (behind l k) r (I .here) wait in
-        let size : length bytes ≡ length packet + 5 = frameOf-length (k₂ * 4 + lastCorrect l) packet in
-        let d : l .settings .d ≡ s .d = ap (λ (x : Settings). x .d) (I .here .settings) in
-        let len : length packet ≡ lengthOf l k₂ = waiting-length s (S .here) (S .there .takenIn) (I .freedHere) (I .gotHere) (behind l k) (I .here) wait in
-        let fits : length bytes ≤ s .d = omega (arith, formed .lengths (behind l k) wait .most, r .d-lo) in
-        subst (λ n. Used (s .d) (Nak k) (ends (sendsRepeat l (S .here .slots) frame ms n) done 0 (S .here .slots))) same
-        (used-sent (s .d) (Nak k) (Data k₂ false (lastCorrect l) (length packet)) _ bytes (S .here .slots) frame done 0 refl (omega arith) (omega arith) m (omega arith))
+        repeatable-holds (λ n. Used (s .d) (Nak k) (ends (sendsRepeat l (S .here .slots) frame ms n) done 0 (S .here .slots))) l k
+        (wellFormed-facts l (I .here .sound .formed) .next) small e (λ j wait may. repeated j wait)
     go false e = used-nothing (s .d) (Nak k) l (S .here .slots) frame done 0 refl
 
 pub used-data : (s : Settings) (l : Link) (slots frame : List ℕ) (ms number k len : ℕ) → InRange s → s .d ≤ length frame
@@ -157,12 +161,6 @@ used-head s S frame received rest ms t h b e r I room (data-next f x len m p lo 
 used-head s S frame received rest ms t h b e r I room (ack-next x m v w) =
     subst (λ y. Used (s .d) y (obeyed (S .here .state) (S .here .slots) frame ms y)) (sym m) (used-ack s (S .here .state) (S .here .slots) frame ms ((x + 3) % 4))
 used-head s S frame received rest ms t h b e r I room (idle-next m w) = used-idle s S frame ms (heard (s .d) received) r I room (number-heard (s .d) received) m
-
--- ---- the gate, with buffers that are long enough
-
-pub sound-gate : (l : Link) (slots frame : ℕ) → Sound l → slotsNeed (l .settings) ≤ slots → frameNeed (l .settings) ≤ frame → gateOf l slots frame ≡ cond (l .lost) linkLost done
-unfolding gateOf entryOf
-sound-gate l slots frame s h k = rw (s .formed, le-ltb slots (slotsNeed (l .settings)) h, le-ltb frame (frameNeed (l .settings)) k)
 
 pub used-take : (s : Settings) (S : System) (frame received : List ℕ) (rest : List (List ℕ)) (ms : ℕ) → InRange s → Inv s S → Enough S frame → S .here .queue ≡ received ∷ rest
     → Used (s .d) (heard (s .d) received) (taken (S .here .state) (S .here .slots) frame ms received)
@@ -213,45 +211,49 @@ pub record Emptied (s : Settings) (ms : ℕ) (S : System) : Type 0 where
   pub noThere : end .there .queue ≡ []
 
 -- the frame at the head is taken, and the load falls
+pub carried-less : (s : Settings) (S T : System) (ms : ℕ) → InRange s → Inv s S → Carried ms S T → loads (s .d) T + 1 ≤ loads (s .d) S
+carried-less s S T ms r I (head frame received rest room e) =
+    let a : After Outcome = taken (S .here .state) (S .here .slots) frame ms received in
+    let u : Used (s .d) (heard (s .d) received) a = used-take s S frame received rest ms r I room e in
+    let left : leftBy a received rest ≡ rest = rw (u .gone) in
+    omega (arith, u .less, ap (load (s .d)) left, ap (load (s .d)) e, load-append (s .d) (S .there .queue) (sentBy a))
+
 pub record Stepped (s : Settings) (ms : ℕ) (S : System) : Type 0 where
   pub end : System
   pub carried : Carried ms S end
   pub inv : Inv s end
-  pub less : load (s .d) (end .here .queue) + load (s .d) (end .there .queue) + 1 ≤ load (s .d) (S .here .queue) + load (s .d) (S .there .queue)
+  pub less : loads (s .d) end + 1 ≤ loads (s .d) S
 
 unfoldable pub stepped : (s : Settings) (S : System) (ms : ℕ) (received : List ℕ) (rest : List (List ℕ)) → IsClock ms → InRange s → Inv s S → S .here .queue ≡ received ∷ rest → Stepped s ms S
 stepped s S ms received rest c r I e =
     let frame : List ℕ = blank (frameNeed (S .here .state .settings)) in
-    let a : After Outcome = taken (S .here .state) (S .here .slots) frame ms received in
     let k : Carried ms S (takes S frame ms received rest) = head frame received rest (enough S) e in
-    let u : Used (s .d) (heard (s .d) received) a = used-take s S frame received rest ms r I (enough S) e in
-    let left : leftBy a received rest ≡ rest = rw (u .gone) in
     record {
       end = takes S frame ms received rest;
       carried = k;
       inv = carried-falls s S (takes S frame ms received rest) ms c r I k .inv;
-      less = omega (arith, u .less, ap (load (s .d)) left, ap (load (s .d)) e, load-append (s .d) (S .there .queue) (sentBy a));
+      less = carried-less s S (takes S frame ms received rest) ms r I k;
     }
 
-unfoldable pub emptied : (s : Settings) (n ms : ℕ) (S : System) → IsClock ms → InRange s → Inv s S → load (s .d) (S .here .queue) + load (s .d) (S .there .queue) ≤ n → Emptied s ms S
-emptied s zero ms S c r I h = go (S .here .queue) (S .there .queue) refl refl
+-- a frame of either queue is carried, if there is one, and then more
+unfoldable pub emptied-by : (s : Settings) (ms : ℕ) (S : System) → IsClock ms → InRange s → Inv s S
+    → ((T : System) → Inv s T → loads (s .d) T + 1 ≤ loads (s .d) S → Emptied s ms T) → Emptied s ms S
+emptied-by s ms S c r I more = go (S .here .queue) (S .there .queue) refl refl
   where
     go : (p q : List (List ℕ)) → S .here .queue ≡ p → S .there .queue ≡ q → Emptied s ms S
     go [] [] ep eq = record { end = S; carries = none S; inv = I; noHere = ep; noThere = eq }
-    go [] (x ∷ q) ep eq = absurd (omega (arith, ap (load (s .d)) eq, cost-some (heard (s .d) x)))
-    go (x ∷ p) q ep eq = absurd (omega (arith, ap (load (s .d)) ep, cost-some (heard (s .d) x)))
-emptied s (suc n) ms S c r I h = go (λ T J less. emptied s n ms T c r J less) (S .here .queue) (S .there .queue) refl refl
-  where
-    go : ((T : System) → Inv s T → load (s .d) (T .here .queue) + load (s .d) (T .there .queue) ≤ n → Emptied s ms T) → (p q : List (List ℕ)) → S .here .queue ≡ p → S .there .queue ≡ q → Emptied s ms S
-    go more [] [] ep eq = record { end = S; carries = none S; inv = I; noHere = ep; noThere = eq }
-    go more (x ∷ p) q ep eq =
+    go (x ∷ p) q ep eq =
         let k : Stepped s ms S = stepped s S ms x p c r I ep in
-        let m : Emptied s ms (k .end) = more (k .end) (k .inv) (omega (arith, k .less)) in
+        let m : Emptied s ms (k .end) = more (k .end) (k .inv) (k .less) in
         record { end = m .end; carries = here S (k .end) (m .end) (k .carried) (m .carries); inv = m .inv; noHere = m .noHere; noThere = m .noThere }
-    go more [] (x ∷ q) ep eq =
+    go [] (x ∷ q) ep eq =
         let k : Stepped s ms (swap S) = stepped s (swap S) ms x q c r (inv-swap s S I) eq in
         let m : Emptied s ms (swap (k .end)) = more (swap (k .end)) (inv-swap s (k .end) (k .inv)) (omega (arith, k .less)) in
         record { end = m .end; carries = there S (swap (k .end)) (m .end) (k .carried) (m .carries); inv = m .inv; noHere = m .noHere; noThere = m .noThere }
+
+unfoldable pub emptied : (s : Settings) (n ms : ℕ) (S : System) → IsClock ms → InRange s → Inv s S → loads (s .d) S ≤ n → Emptied s ms S
+emptied s zero ms S c r I h = emptied-by s ms S c r I (λ T J less. absurd (omega (arith, less)))
+emptied s (suc n) ms S c r I h = emptied-by s ms S c r I (λ T J less. emptied s n ms T c r J (omega (arith, less)))
 
 -- ---- looking ends
 
@@ -260,19 +262,10 @@ pub record Watched (s : Settings) (ms : ℕ) (S : System) : Type 0 where
   pub looks-so : Looks ms S end
   pub inv : Inv s end
 
-unfoldable pub watched : (s : Settings) (n ms : ℕ) (S : System) → IsClock ms → InRange s → Inv s S → weight (S .here .state) ≤ n → Watched s ms S
-watched s zero ms S c r I h = go (eqb (lookOf S frame ms .told .sent) 0) refl
-  where
-    frame : List ℕ
-    frame = blank (frameNeed (S .here .state .settings))
-
-    k : Looked (S .here .state) (lookOf S frame ms) (dueAt (S .here .state) ms && not (S .here .state .lost))
-    k = look-does s S frame ms I (enough S)
-
-    go : (t : Bool) → eqb (lookOf S frame ms .told .sent) 0 ≡ t → Watched s ms S
-    go true e = record { end = looks S frame ms; looks-so = nothing S frame (enough S) (eqb-true (lookOf S frame ms .told .sent) 0 e); inv = look-falls s S frame ms c r I (enough S) .inv }
-    go false e = absurd (omega (arith, k .low, ap (λ (t : Bool). bit (not t)) e))
-watched s (suc n) ms S c r I h = go (λ J less. watched s n ms (looks S frame ms) c r J less) (eqb (lookOf S frame ms .told .sent) 0) refl
+-- one look, and more where it sent
+unfoldable pub watched-by : (s : Settings) (ms : ℕ) (S : System) → IsClock ms → InRange s → Inv s S
+    → ((T : System) → Inv s T → weight (T .here .state) + 1 ≤ weight (S .here .state) → Watched s ms T) → Watched s ms S
+watched-by s ms S c r I more = go (eqb (lookOf S frame ms .told .sent) 0) refl
   where
     frame : List ℕ
     frame = blank (frameNeed (S .here .state .settings))
@@ -283,11 +276,15 @@ watched s (suc n) ms S c r I h = go (λ J less. watched s n ms (looks S frame ms
     J : Inv s (looks S frame ms)
     J = look-falls s S frame ms c r I (enough S) .inv
 
-    go : (Inv s (looks S frame ms) → weight (lookOf S frame ms .told .state) ≤ n → Watched s ms (looks S frame ms)) → (t : Bool) → eqb (lookOf S frame ms .told .sent) 0 ≡ t → Watched s ms S
-    go more true e = record { end = looks S frame ms; looks-so = nothing S frame (enough S) (eqb-true (lookOf S frame ms .told .sent) 0 e); inv = J }
-    go more false e =
-        let m : Watched s ms (looks S frame ms) = more J (omega (arith, k .low, ap (λ (t : Bool). bit (not t)) e)) in
+    go : (t : Bool) → eqb (lookOf S frame ms .told .sent) 0 ≡ t → Watched s ms S
+    go true e = record { end = looks S frame ms; looks-so = nothing S frame (enough S) (eqb-true (lookOf S frame ms .told .sent) 0 e); inv = J }
+    go false e =
+        let m : Watched s ms (looks S frame ms) = more (looks S frame ms) J (omega (arith, k .low, ap (λ (t : Bool). bit (not t)) e)) in
         record { end = m .end; looks-so = sends-on S (m .end) frame (enough S) (eqb-false (lookOf S frame ms .told .sent) 0 e) (m .looks-so); inv = m .inv }
+
+unfoldable pub watched : (s : Settings) (n ms : ℕ) (S : System) → IsClock ms → InRange s → Inv s S → weight (S .here .state) ≤ n → Watched s ms S
+watched s zero ms S c r I h = watched-by s ms S c r I (λ T J less. absurd (omega (arith, less)))
+watched s (suc n) ms S c r I h = watched-by s ms S c r I (λ T J less. watched s n ms T c r J (omega (arith, less)))
 
 -- ---- rounds
 
@@ -299,7 +296,7 @@ pub record ARound (s : Settings) (ms : ℕ) (S : System) : Type 0 where
 
 unfoldable pub a-round : (s : Settings) (S : System) (ms : ℕ) → IsClock ms → InRange s → Inv s S → ARound s ms S
 a-round s S ms c r I =
-    let k : Emptied s ms S = emptied s (load (s .d) (S .here .queue) + load (s .d) (S .there .queue)) ms S c r I (omega arith) in
+    let k : Emptied s ms S = emptied s (loads (s .d) S) ms S c r I (omega arith) in
     let t : Moved (k .end) ms = moved s (k .end) ms r (k .inv) c in
     let now : ℕ = onward ms (t .passed) in
     let a : Watched s now (k .end) = watched s (weight (k .end .here .state)) now (k .end) (onward-clock ms (t .passed)) r (k .inv) (omega arith) in
@@ -331,31 +328,8 @@ rounds-exist s S ms n m c =
 
 -- ---- carrying ends in every mixture
 
-pub cost-most : (h : Heard) → cost h ≤ 4
-cost-most (Ack k) = omega arith
-cost-most (Data number nak k len) = omega arith
-cost-most (Nak k) = omega arith
-cost-most Size = omega arith
-cost-most Sum = omega arith
-cost-most Code = omega arith
-cost-most ControlSize = omega arith
-cost-most Length = omega arith
-cost-most Reset = omega arith
-
-pub load-most : (d : ℕ) (q : List (List ℕ)) → load d q ≤ 4 * length q
-load-most d [] = omega arith
-load-most d (x ∷ q) = omega (arith, cost-most (heard d x), load-most d q)
-
-pub carried-less : (s : Settings) (S T : System) (ms : ℕ) → InRange s → Inv s S → Carried ms S T
-    → load (s .d) (T .here .queue) + load (s .d) (T .there .queue) + 1 ≤ load (s .d) (S .here .queue) + load (s .d) (S .there .queue)
-carried-less s S T ms r I (head frame received rest room e) =
-    let a : After Outcome = taken (S .here .state) (S .here .slots) frame ms received in
-    let u : Used (s .d) (heard (s .d) received) a = used-take s S frame received rest ms r I room e in
-    let left : leftBy a received rest ≡ rest = rw (u .gone) in
-    omega (arith, u .less, ap (load (s .d)) left, ap (load (s .d)) e, load-append (s .d) (S .there .queue) (sentBy a))
-
 pub carries-load : (s : Settings) (S T : System) (ms : ℕ) → IsClock ms → InRange s → Inv s S → (k : Carries ms S T)
-    → carriedIn k + (load (s .d) (T .here .queue) + load (s .d) (T .there .queue)) ≤ load (s .d) (S .here .queue) + load (s .d) (S .there .queue)
+    → carriedIn k + loads (s .d) T ≤ loads (s .d) S
 carries-load s S T ms c r I (none S₁) = omega arith
 carries-load s S U ms c r I (here S₁ T U₁ k rest) =
     omega (arith, carried-less s S T ms r I k, carries-load s T U ms c r (carried-falls s S T ms c r I k .inv) rest)

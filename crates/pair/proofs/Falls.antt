@@ -3,14 +3,14 @@ use mathlib.Core.Path.{_≡_, refl, sym, ap, subst, _∙_}
 use mathlib.Core.Bool.{Bool, true, false, true≢false, cond, not, _&&_, _||_, and-true}
 use mathlib.Core.List.{List, [], _∷_}
 use mathlib.Core.Logic.{_⊎_, inl, inr}
-use Prim.Native.Nat.{ℕ, suc, _%_, _+_, _-_, _≤_, _<_}
+use Prim.Native.Nat.{ℕ, suc, _%_, _+_, _-_, _≤_}
 use native.Mathlib.Omega.{arith}
-use borrow.Author.Tests.{ltb-true, ltb-false, ne-eqb, eq-eqb}
+use borrow.Author.Tests.{ltb-false, ne-eqb, eq-eqb}
 use lib.ListN.{length, length-append}
 use lib.Seq.{take-all}
 use lib.Dec.{eqb, ltb}
 use Rattle.base.specs.Answer.{done}
-use Rattle.base.proofs.Tests.{and-left, and-right, or-left-false, or-right-false}
+use Rattle.base.proofs.Tests.{and-right, or-left-false, or-right-false}
 use Rattle.frame.specs.declared.Heard.{Heard}
 use Rattle.frame.specs.declared.Heard.the-variants.{Size, Sum, Ack, Nak, Data}
 use Rattle.frame.specs.Bytes.{nakFrame}
@@ -20,17 +20,15 @@ use Rattle.state.specs.declared.Settings.{Settings}
 use Rattle.state.specs.declared.Link.{Link}
 use Rattle.state.specs.declared.Outcome.{Outcome}
 use Rattle.state.specs.Bounds.{slotsNeed}
-use Rattle.state.specs.State.{lastCorrect, behind, waits, sentBefore}
+use Rattle.state.specs.State.{lastCorrect}
 use Rattle.state.specs.Gate.{After, refused, gated, gateOf}
-use Rattle.state.specs.Formed.{InRange, Formed, Sound}
-use Rattle.state.proofs.Facts.{wellFormed-facts, gateOf-facts}
+use Rattle.state.specs.Formed.{InRange, Sound}
+use Rattle.state.proofs.Facts.{wellFormed-facts, gateOf-facts, gated-cases, gated-open}
 use Rattle.state.proofs.Keeps.{sound-open}
-use Rattle.send.specs.Repeat.{mayRepeat}
 use Rattle.send.specs.Makers.{silent, ends, sends, marked, sendsRepeat}
-use Rattle.send.proofs.Facts.{behind-sentBefore}
 use Rattle.receive.specs.Steps.{repeatable}
 use Rattle.receive.specs.Take.{obeyed, taken}
-use Rattle.receive.proofs.Facts.{data-taken}
+use Rattle.receive.proofs.Facts.{freed-fewer, repeatable-holds, data-taken}
 use Rattle.clock.specs.Look.{lookedAt, looked}
 use Rattle.pair.specs.System.{System, swap, deliveredBy, takes, lookOf, looks, IsClock}
 use Rattle.state.specs.Timer.{onward}
@@ -38,9 +36,8 @@ use Rattle.pair.specs.Round.{Enough, Carried, head, Carries, none, here,
 use Rattle.pair.specs.Demand3.{Through, Alive, WithinRounds, Within24}
 use Rattle.pair.proofs.Line.{Line, data-next, ack-next, idle-next, Idle, by-size, by-sum, a-nak, line-taken, line-freed}
 use Rattle.pair.proofs.Invariant.{Inv, inv-swap, window-small}
-use Rattle.pair.proofs.Calls.{gated-cases, gated-open}
 use Rattle.pair.proofs.Moves.{take-kept, look-kept, moment-range, moment-kept}
-use Rattle.pair.proofs.Measure.{looked-same, bit, bit-small, weight, spare-bound, freed-fewer, freed-spare, again-weight, Calm, Looked, looked-look}
+use Rattle.pair.proofs.Measure.{looked-same, bit, bit-small, weight, spare-bound, freed-spare, again-weight, Calm, Looked, looked-look}
 
 -- ---- a frame taken
 
@@ -63,12 +60,8 @@ calm-idle l slots frame ms (Nak k) s small (a-nak k₁) = go (repeatable l k) re
   where
     go : (t : Bool) → repeatable l k ≡ t → Calm l (ends (cond t (sendsRepeat l slots frame ms k) (silent l frame)) done 0 slots) 0
     go true e =
-        let formed : Formed l = wellFormed-facts l (s .formed) in
-        let same : sentBefore l (behind l k) ≡ k = behind-sentBefore l k (formed .next) small in
-        let wait : behind l k < l .waiting = ltb-true (behind l k) (l .waiting) (and-left (waits l k) (mayRepeat l k) e) in
-        let may : mayRepeat l (sentBefore l (behind l k)) ≡ true = subst (λ n. mayRepeat l n ≡ true) (sym same) (and-right (waits l k) (mayRepeat l k) e) in
-        subst (λ n. Calm l (ends (sendsRepeat l slots frame ms n) done 0 slots) 0) same
-        (record { low = omega (arith, again-weight l ms (behind l k) s wait may); few = omega arith; sticks = λ h. h })
+        repeatable-holds (λ n. Calm l (ends (sendsRepeat l slots frame ms n) done 0 slots) 0) l k (wellFormed-facts l (s .formed) .next) small e
+        (λ j wait may. record { low = omega (arith, again-weight l ms j s wait may); few = omega arith; sticks = λ h. h })
     go false e = record { low = omega arith; few = omega arith; sticks = λ h. h }
 
 calm-ack : (l : Link) (slots frame : List ℕ) (ms k : ℕ) → Calm l (obeyed l slots frame ms (Ack k)) 0

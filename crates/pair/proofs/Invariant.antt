@@ -1,13 +1,16 @@
 -- What holds at every moment, and how each small change keeps it. Assumes nothing.
 use mathlib.Core.Path.{_≡_, refl, sym, ap, subst, _∙_}
-use mathlib.Core.Bool.{Bool, true, false, cond}
+use mathlib.Core.Bool.{Bool, true, false}
 use mathlib.Core.List.{List, [], _∷_, _++_}
 use Prim.Native.Nat.{ℕ, zero, suc, _%_, _+_, _-_, _*_, _≤_, _<_}
 use native.Mathlib.Omega.{arith}
-use borrow.Author.Tests.{ltb-true, ltb-false, eqb-true, eqb-false}
+use borrow.Author.Tests.{ltb-false, eqb-true, eqb-false}
 use lib.ListN.{length, take, getD, set, length-append, List·getD-append}
-use lib.Seq.{take-suc, take-append-le, getD-set-same, getD-set-other, set-out}
-use lib.Dec.{ltb, eqb}
+use lib.Seq.{take-suc, take-append-le, getD-append-seam}
+use lib.Dec.{eqb}
+use Rattle.base.specs.Buffer.{put}
+use Rattle.base.proofs.Put.{set-cases}
+use Rattle.base.proofs.Tests.{cond-cases}
 use Rattle.frame.specs.declared.Heard.the-variants.{Data}
 use Rattle.frame.specs.Steps.{heard, packetIn}
 use Rattle.state.specs.declared.Settings.{Settings}
@@ -15,9 +18,8 @@ use Rattle.state.specs.declared.Link.{Link}
 use Rattle.state.specs.Bounds.{limitOf, slotsNeed}
 use Rattle.state.specs.State.{freshOf, behind, waits, sentBefore, slotOf, lengthOf}
 use Rattle.state.specs.Formed.{InRange, Formed, Sound}
-use Rattle.state.proofs.Facts.{wellFormed-facts, slotOf-lt, part-inside}
+use Rattle.state.proofs.Facts.{wellFormed-facts, slotOf-lt, slotOf-small, slots-apart, part-inside}
 use Rattle.state.proofs.Keeps.{changed, fresh-sound}
-use Rattle.base.specs.Buffer.{put}
 use Rattle.send.specs.Repeat.{partOf, packetOf}
 use Rattle.send.specs.Submit.{sentFirst}
 use Rattle.send.proofs.Slots.{new-packet, old-packet, accepted-waits}
@@ -31,16 +33,7 @@ abbrev pub Timed : Link → Type 0
 Timed l = ((i : ℕ) → IsClock (getD (l .starts) i 0)) × IsClock (l .ackstart)
 
 pub set-timed : (starts : List ℕ) (slot ms : ℕ) → ((i : ℕ) → IsClock (getD starts i 0)) → IsClock ms → (i : ℕ) → IsClock (getD (set starts slot ms) i 0)
-set-timed starts slot ms f c i = go (eqb i slot) (ltb slot (length starts)) refl refl
-  where
-    go : (same inside : Bool) → eqb i slot ≡ same → ltb slot (length starts) ≡ inside → IsClock (getD (set starts slot ms) i 0)
-    go true true e h = subst (λ k. IsClock (getD (set starts slot ms) k 0)) (sym (eqb-true i slot e)) (omega (arith, getD-set-same starts slot ms 0 (ltb-true slot (length starts) h)))
-    go true false e h = subst (λ (x : List ℕ). IsClock (getD x i 0)) (sym (set-out starts slot ms (ltb-false slot (length starts) h))) (f i)
-    go false h e k = omega (arith, getD-set-other starts slot i ms 0 (eqb-false i slot e), f i)
-
-cond-timed : (t : Bool) (a b : ℕ) → IsClock a → IsClock b → IsClock (cond t a b)
-cond-timed true a b p q = p
-cond-timed false a b p q = q
+set-timed starts slot ms f c i = set-cases (λ n. IsClock n) starts slot i ms (λ e. c) (f i)
 
 -- an end: t is what the other end has taken, b how many of this end's packets are freed, g how many of the other's are delivered here
 pub record Way (s : Settings) (x : Side) (t : List (List ℕ)) (b g : ℕ) : Type 0 where
@@ -111,18 +104,8 @@ way-changed s x t b g starts counts ackstart acking naked lost queue w k c = rec
 
 way-there : (s : Settings) (x : Side) (t : List (List ℕ)) (b g : ℕ) (queue : List (List ℕ)) → Way s x t b g
     → Way s (record { state = x .state; slots = x .slots; queue = queue; takenIn = x .takenIn; delivered = x .delivered }) t b g
-way-there s x t b g queue w = record {
-  sound = w .sound;
-  timed = w .timed;
-  settings = w .settings;
-  room = w .room;
-  next = w .next;
-  window = w .window;
-  expected = w .expected;
-  count = w .count;
-  first = w .first;
-  holds = w .holds;
-}
+way-there s x t b g queue w =
+    way-changed s x t b g (x .state .starts) (x .state .counts) (x .state .ackstart) (x .state .acking) (x .state .naked) (x .state .lost) queue w (w .sound) (w .timed)
 
 -- ---- step 6
 
@@ -132,14 +115,10 @@ window-small s x t b g w = let f = wellFormed-facts (x .state) (w .sound .formed
 
 -- an acknowledgement that x packets have arrived frees so many
 pub freed-window : (l : Link) (n b x : ℕ) → l .next ≡ n % 4 → b + l .waiting ≡ n → l .waiting ≤ 2 → b ≤ x → x ≤ n → x + freed l ((x + 3) % 4) .waiting ≡ n
-freed-window l n b x e w small lo hi = go (waits l ((x + 3) % 4)) refl
-  where
-    at : behind l ((x + 3) % 4) ≡ n - x
-    at = omega arith
-
-    go : (t : Bool) → waits l ((x + 3) % 4) ≡ t → x + cond t (behind l ((x + 3) % 4)) (l .waiting) ≡ n
-    go true q = omega (arith, at)
-    go false q = omega (arith, at, ltb-false (behind l ((x + 3) % 4)) (l .waiting) q)
+freed-window l n b x e w small lo hi =
+    let k : ℕ = (x + 3) % 4 in
+    let at : behind l k ≡ n - x = omega arith in
+    cond-cases (λ y. x + y ≡ n) (waits l k) (behind l k) (l .waiting) (λ q. omega (arith, at)) (λ q. omega (arith, at, ltb-false (behind l k) (l .waiting) q))
 
 -- ---- small changes
 
@@ -168,18 +147,28 @@ inv-turned s S starts counts ackstart acking naked lost sent I k c w = record {
   toThere = w;
 }
 
--- the head of the queue is passed over
-pub inv-passed : (s : Settings) (S : System) (frame : List ℕ) (q : List (List ℕ)) → S .here .queue ≡ frame ∷ q → Inv s S → Inv s (restated S (S .here .state) q)
-inv-passed s S frame q e I = record {
+-- only the queue changes, to one that may stand there
+inv-queue : (s : Settings) (S : System) (q : List (List ℕ)) (I : Inv s S) → Line (s .d) (S .there .takenIn) (I .gotHere) (I .freedHere) (I .gotThere) q
+    → Inv s (restated S (S .here .state) q)
+inv-queue s S q I w = record {
   freedHere = I .freedHere;
   freedThere = I .freedThere;
   gotHere = I .gotHere;
   gotThere = I .gotThere;
   here = way-there s (S .here) (S .there .takenIn) (I .freedHere) (I .gotHere) q (I .here);
   there = I .there;
-  toHere = line-tail (s .d) (S .there .takenIn) frame q (subst (λ z. Line (s .d) (S .there .takenIn) (I .gotHere) (I .freedHere) (I .gotThere) z) e (I .toHere));
+  toHere = w;
   toThere = I .toThere;
 }
+
+-- the head of the queue is passed over
+pub inv-passed : (s : Settings) (S : System) (frame : List ℕ) (q : List (List ℕ)) → S .here .queue ≡ frame ∷ q → Inv s S → Inv s (restated S (S .here .state) q)
+inv-passed s S frame q e I =
+    inv-queue s S q I (line-tail (s .d) (S .there .takenIn) frame q (subst (λ z. Line (s .d) (S .there .takenIn) (I .gotHere) (I .freedHere) (I .gotThere) z) e (I .toHere)))
+
+-- a frame of it is lost or damaged
+pub inv-harm : (s : Settings) (S : System) (q : List (List ℕ)) → Harm (s .d) (S .here .queue) q → Inv s S → Inv s (restated S (S .here .state) q)
+inv-harm s S q k I = inv-queue s S q I (line-harm (s .d) (S .there .takenIn) (S .here .queue) q k (I .toHere))
 
 -- x packets of this end have arrived: those up to x are freed
 pub inv-freed : (s : Settings) (S : System) (x : ℕ) (q : List (List ℕ)) (I : Inv s S) → I .freedHere ≤ x
@@ -232,7 +221,7 @@ inv-delivered s S ms x q packet I c lo more p w =
       gotThere = I .gotThere;
       here = record {
         sound = afterDelivery-sound (freed l ((x + 3) % 4)) ms (freed-sound l ((x + 3) % 4) (I .here .sound));
-        timed = (I .here .timed .0, cond-timed (l .acking) (l .ackstart) ms (I .here .timed .1) c);
+        timed = (I .here .timed .0, cond-cases (λ n. IsClock n) (l .acking) (l .ackstart) ms (λ e. I .here .timed .1) (λ e. c));
         settings = I .here .settings;
         room = I .here .room;
         next = I .here .next;
@@ -262,17 +251,6 @@ adding S l slots packet sent = record {
   };
 }
 
-getD-end : (t : List (List ℕ)) (packet : List ℕ) → getD (t ++ (packet ∷ [])) (length t) [] ≡ packet
-getD-end [] packet = refl
-getD-end (x ∷ t) packet = getD-end t packet
-
--- in a window of two, the packet before has the other slot
-slots-two : (l : Link) (k : ℕ) → l .settings .window ≡ 2 → sentBefore l 0 ≡ k → slotOf l k ≡ slotOf l (l .next) → ⊥
-slots-two l k two e q =
-    let a : slotOf l k ≡ k % 2 = ap (λ (x : ℕ). k % x) two in
-    let c : slotOf l (l .next) ≡ l .next % 2 = ap (λ (x : ℕ). l .next % x) two in
-    omega arith
-
 -- where it is added, each waiting packet stands in its slot
 added-holds : (s : Settings) (x : Side) (t : List (List ℕ)) (b g : ℕ) (packet : List ℕ) (ms : ℕ) → Way s x t b g
     → length packet ≤ limitOf (x .state .settings) → x .state .waiting < x .state .settings .window
@@ -297,20 +275,19 @@ added-holds s x t b g packet ms w hi place f lo lt = go (eqb f n) refl
     go true e =
         let at : f ≡ n = eqb-true f n e in
         let number : f % 4 ≡ l .next = omega (arith, w .next) in
-        let slot : slotOf l (l .next) < length (l .lengths) = omega (arith, slotOf-lt l (l .next) (formed .settings .window-lo), formed .settings .window-hi, w .sound .lengths) in
+        let slot : slotOf l (l .next) < length (l .lengths) = omega (arith, slotOf-small l (l .next) (formed .settings), w .sound .lengths) in
         let part : partOf l (l .next) ≤ length (x .slots) =
         omega (arith, part-inside (slotOf l (l .next)) (l .settings .window) (limitOf (l .settings)) 0 (length (x .slots)) (slotOf-lt l (l .next) (formed .settings .window-lo)) (omega arith) slots-room) in
         rw (number) (new-packet l (x .slots) [] packet ms slot part)
-        ∙ sym (ap (λ (k : ℕ). getD (x .takenIn ++ (packet ∷ [])) k []) at ∙ getD-end (x .takenIn) packet)
+        ∙ sym (ap (λ (k : ℕ). getD (x .takenIn ++ (packet ∷ [])) k []) at ∙ getD-append-seam (x .takenIn) packet [] [])
     go false e =
         let longer : length (x .takenIn ++ (packet ∷ [])) ≡ n + 1 = length-append (x .takenIn) (packet ∷ []) in
         let below : f < n = omega (arith, eqb-false f n e) in
         let two : l .settings .window ≡ 2 = omega (arith, w .window, formed .settings .window-hi) in
         let number : sentBefore l 0 ≡ f % 4 = omega (arith, w .next, w .window, formed .settings .window-hi) in
         let len : lengthOf l (f % 4) ≤ limitOf (l .settings) = subst (λ k. lengthOf l k ≤ limitOf (l .settings)) number (formed .lengths 0 (omega (arith, w .window)) .most) in
-        let apart : slotOf l (f % 4) ≡ slotOf l (l .next) → ⊥ = λ q. slots-two l (f % 4) two number q in
         let room2 : 2 * limitOf (l .settings) ≤ length (x .slots) = subst (λ k. k * limitOf (l .settings) ≤ length (x .slots)) two slots-room in
-        old-packet l (x .slots) packet ms (f % 4) two apart len hi room2
+        old-packet l (x .slots) packet ms (f % 4) two (slots-apart l (f % 4) two number) len hi room2
         ∙ w .holds f lo below
         ∙ sym (List·getD-append (x .takenIn) (packet ∷ []) [] f below)
 
@@ -325,7 +302,7 @@ inv-added s S packet frame ms I c k lo hi place same m p =
     let longer : length (t ++ (packet ∷ [])) ≡ n + 1 = length-append t (packet ∷ []) in
     let reached : I .gotThere ≤ n = line-taken (s .d) t (S .there .queue) (I .toThere) in
     let read : heard (s .d) frame ≡ Data (n % 4) false ((I .gotHere + 3) % 4) (length packet) = m ∙ ap (λ (x : ℕ). Data x false ((I .gotHere + 3) % 4) (length packet)) (I .here .next) in
-    let got : packetIn frame (length packet) ≡ getD (t ++ (packet ∷ [])) n [] = p ∙ sym (getD-end t packet) in
+    let got : packetIn frame (length packet) ≡ getD (t ++ (packet ∷ [])) n [] = p ∙ sym (getD-append-seam t packet [] []) in
     record {
       freedHere = I .freedHere;
       freedThere = I .freedThere;
@@ -359,20 +336,6 @@ inv-added s S packet frame ms I c k lo hi place same m p =
       toThere = line-data (s .d) (t ++ (packet ∷ [])) n (length packet) frame (S .there .queue) read got lo (rw longer (omega arith)) (rw longer (omega arith))
           (line-more (s .d) t packet (S .there .queue) (I .toThere));
     }
-
--- ---- the queues
-
-pub inv-harm : (s : Settings) (S : System) (q : List (List ℕ)) → Harm (s .d) (S .here .queue) q → Inv s S → Inv s (restated S (S .here .state) q)
-inv-harm s S q k I = record {
-  freedHere = I .freedHere;
-  freedThere = I .freedThere;
-  gotHere = I .gotHere;
-  gotThere = I .gotThere;
-  here = way-there s (S .here) (S .there .takenIn) (I .freedHere) (I .gotHere) q (I .here);
-  there = I .there;
-  toHere = line-harm (s .d) (S .there .takenIn) (S .here .queue) q k (I .toHere);
-  toThere = I .toThere;
-}
 
 -- ---- the start
 

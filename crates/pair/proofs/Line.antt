@@ -69,25 +69,25 @@ module _ (d : ℕ) (t : List (List ℕ)) where
 
   -- ---- what the other end sends
 
+  -- a frame goes behind the others: it is enough to know that it may go where nothing is on its way
+  line-end : {h b e : ℕ} (frame : List ℕ) (q : List (List ℕ)) → ((h b : ℕ) → h ≤ length t → b ≤ e → Line d t h b e (frame ∷ [])) → Line d t h b e q
+      → Line d t h b e (q ++ (frame ∷ []))
+  line-end {h} {b} frame [] alone (clear p r) = alone h b p r
+  line-end frame (other ∷ q) alone (data-next f x len m p s u v w) = data-next f x len m p s u v (line-end frame q alone w)
+  line-end frame (other ∷ q) alone (ack-next x m v w) = ack-next x m v (line-end frame q alone w)
+  line-end frame (other ∷ q) alone (idle-next m w) = idle-next m (line-end frame q alone w)
+
   pub line-data : {h b e : ℕ} (f len : ℕ) (frame : List ℕ) (q : List (List ℕ)) → heard d frame ≡ Data (f % 4) false ((e + 3) % 4) len
       → packetIn frame len ≡ getD t f [] → 1 ≤ len → f < length t → length t ≤ f + 2 → Line d t h b e q → Line d t h b e (q ++ (frame ∷ []))
-  line-data {h} {b} {e} f len frame [] m p s lt le (clear a c) =
-      data-next {h = h} {b = b} {e = e} f e len m p s (omega arith) c (clear {h = max h (suc f)} {b = e} {e = e} (omega arith) (omega arith))
-  line-data f len frame (other ∷ q) m p s lt le (data-next f₁ x₁ len₁ m₁ p₁ s₁ u₁ v₁ w) = data-next f₁ x₁ len₁ m₁ p₁ s₁ u₁ v₁ (line-data f len frame q m p s lt le w)
-  line-data f len frame (other ∷ q) m p s lt le (ack-next x₁ m₁ v₁ w) = ack-next x₁ m₁ v₁ (line-data f len frame q m p s lt le w)
-  line-data f len frame (other ∷ q) m p s lt le (idle-next m₁ w) = idle-next m₁ (line-data f len frame q m p s lt le w)
+  line-data {e = e} f len frame q m p s lt le =
+      line-end frame q
+      (λ h b a c. data-next {h = h} {b = b} {e = e} f e len m p s (omega arith) c (clear {h = max h (suc f)} {b = e} {e = e} (omega arith) (omega arith)))
 
   pub line-ack : {h b e : ℕ} (frame : List ℕ) (q : List (List ℕ)) → heard d frame ≡ Ack ((e + 3) % 4) → Line d t h b e q → Line d t h b e (q ++ (frame ∷ []))
-  line-ack {e = e} frame [] m (clear a c) = ack-next e m c (clear {b = e} {e = e} a (omega arith))
-  line-ack frame (other ∷ q) m (data-next f₁ x₁ len₁ m₁ p₁ s₁ u₁ v₁ w) = data-next f₁ x₁ len₁ m₁ p₁ s₁ u₁ v₁ (line-ack frame q m w)
-  line-ack frame (other ∷ q) m (ack-next x₁ m₁ v₁ w) = ack-next x₁ m₁ v₁ (line-ack frame q m w)
-  line-ack frame (other ∷ q) m (idle-next m₁ w) = idle-next m₁ (line-ack frame q m w)
+  line-ack {e = e} frame q m = line-end frame q (λ h b a c. ack-next e m c (clear {b = e} {e = e} a (omega arith)))
 
   pub line-idle : {h b e : ℕ} (frame : List ℕ) (q : List (List ℕ)) → Idle (heard d frame) → Line d t h b e q → Line d t h b e (q ++ (frame ∷ []))
-  line-idle frame [] m (clear a c) = idle-next m (clear a c)
-  line-idle frame (other ∷ q) m (data-next f₁ x₁ len₁ m₁ p₁ s₁ u₁ v₁ w) = data-next f₁ x₁ len₁ m₁ p₁ s₁ u₁ v₁ (line-idle frame q m w)
-  line-idle frame (other ∷ q) m (ack-next x₁ m₁ v₁ w) = ack-next x₁ m₁ v₁ (line-idle frame q m w)
-  line-idle frame (other ∷ q) m (idle-next m₁ w) = idle-next m₁ (line-idle frame q m w)
+  line-idle frame q m = line-end frame q (λ h b a c. idle-next m (clear a c))
 
 -- the other end takes one more packet
 pub line-more : (d : ℕ) (t : List (List ℕ)) (packet : List ℕ) {h b e : ℕ} (q : List (List ℕ)) → Line d t h b e q → Line d (t ++ (packet ∷ [])) h b e q

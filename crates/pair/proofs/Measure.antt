@@ -5,24 +5,27 @@ use mathlib.Core.List.{List, []}
 use Prim.Native.Nat.{ℕ, zero, suc, _%_, _+_, _-_, _*_, _≤_, _<_}
 use native.Mathlib.Omega.{arith}
 use borrow.Author.Tests.{ltb-true, eqb-true, eqb-false, ne-eqb}
-use lib.ListN.{length, getD, set}
-use lib.Seq.{getD-set-same, getD-set-other}
+use lib.ListN.{length, getD}
+use lib.Seq.{getD-set-same}
 use lib.Dec.{eqb, ltb}
 use Rattle.base.specs.Answer.{done}
+use Rattle.base.proofs.Put.{set-cases}
 use Rattle.base.proofs.Tests.{and-left}
 use Rattle.frame.specs.Bytes.{frameOf, dataFrame}
 use Rattle.frame.proofs.Writing.{frameOf-length}
 use Rattle.state.specs.declared.Link.{Link}
 use Rattle.state.specs.declared.Outcome.{Outcome}
-use Rattle.state.specs.State.{lastCorrect, behind, waits, sentBefore, slotOf, countOf, startOf}
+use Rattle.state.specs.State.{lastCorrect, sentBefore, slotOf, countOf, startOf}
 use Rattle.state.specs.Gate.{After, refused}
 use Rattle.state.specs.Timer.{due}
 use Rattle.state.specs.Formed.{Formed, Sound}
-use Rattle.state.proofs.Facts.{wellFormed-facts, slotOf-lt}
+use Rattle.state.proofs.Facts.{wellFormed-facts, slotOf-small}
 use Rattle.send.specs.Repeat.{packetOf, again, mayRepeat}
 use Rattle.send.specs.Makers.{ends, sendsRepeat}
 use Rattle.receive.specs.Steps.{freed}
+use Rattle.receive.proofs.Facts.{freed-fewer}
 use Rattle.clock.specs.Look.{packetDue, acknowledgeDue, afterOldest, exhausted, served, acknowledgedIf, lookedAt}
+use Rattle.clock.proofs.Facts.{due-waits}
 use Rattle.pair.specs.Round.{dueAt}
 
 abbrev pub bit : Bool → ℕ
@@ -58,35 +61,23 @@ spare-fewer l n (suc k) h = go (λ less. spare-fewer l n k less) (eqb n (suc k))
     go ih true e = subst (λ m. spare l m ≤ spare l (suc k)) (sym (eqb-true n (suc k) e)) (omega arith)
     go ih false e = omega (arith, ih (omega (arith, eqb-false n (suc k) e)))
 
-pub freed-fewer : (l : Link) (number : ℕ) → freed l number .waiting ≤ l .waiting
-freed-fewer l number = go (waits l number) refl
-  where
-    go : (t : Bool) → waits l number ≡ t → cond t (behind l number) (l .waiting) ≤ l .waiting
-    go true e = omega (arith, ltb-true (behind l number) (l .waiting) e)
-    go false e = omega arith
-
 pub freed-spare : (l : Link) (number : ℕ) → spare (freed l number) (freed l number .waiting) ≤ spare l (l .waiting)
 freed-spare l number = spare-fewer l (freed l number .waiting) (l .waiting) (freed-fewer l number)
 
 -- ---- repeating
 
 -- the counts of all slots are as before or higher, and of this one higher by 1
-count-up : (l : Link) (number ms other : ℕ) → slotOf l number < length (l .counts) → countOf l other ≤ countOf (again l number ms) other
-count-up l number ms other h = go (eqb (slotOf l other) (slotOf l number)) refl
-  where
-    go : (t : Bool) → eqb (slotOf l other) (slotOf l number) ≡ t → countOf l other ≤ countOf (again l number ms) other
-    go true e =
-        let same : slotOf l other ≡ slotOf l number = eqb-true (slotOf l other) (slotOf l number) e in
-        subst (λ k. getD (l .counts) k 0 ≤ getD (set (l .counts) (slotOf l number) (countOf l number + 1)) k 0) (sym same)
-        (omega (arith, getD-set-same (l .counts) (slotOf l number) (countOf l number + 1) 0 h))
-    go false e = omega (arith, getD-set-other (l .counts) (slotOf l number) (slotOf l other) (countOf l number + 1) 0 (eqb-false (slotOf l other) (slotOf l number) e))
+count-up : (l : Link) (number ms other : ℕ) → countOf l other ≤ countOf (again l number ms) other
+count-up l number ms other =
+    set-cases (λ n. countOf l other ≤ n) (l .counts) (slotOf l number) (slotOf l other) (countOf l number + 1)
+    (λ e. omega (arith, ap (λ (k : ℕ). getD (l .counts) k 0) e)) (omega arith)
 
 count-more : (l : Link) (number ms : ℕ) → slotOf l number < length (l .counts) → countOf (again l number ms) number ≡ countOf l number + 1
 count-more l number ms h = getD-set-same (l .counts) (slotOf l number) (countOf l number + 1) 0 h
 
-again-spare : (l : Link) (number ms n : ℕ) → slotOf l number < length (l .counts) → spare (again l number ms) n ≤ spare l n
-again-spare l number ms zero h = omega arith
-again-spare l number ms (suc n) h = omega (arith, again-spare l number ms n h, count-up l number ms (sentBefore l n) h)
+again-spare : (l : Link) (number ms n : ℕ) → spare (again l number ms) n ≤ spare l n
+again-spare l number ms zero = omega arith
+again-spare l number ms (suc n) = omega (arith, again-spare l number ms n, count-up l number ms (sentBefore l n))
 
 again-less : (l : Link) (ms j n : ℕ) → slotOf l (sentBefore l j) < length (l .counts) → j < n → countOf l (sentBefore l j) < l .settings .repeats
     → spare (again l (sentBefore l j) ms) n + 1 ≤ spare l n
@@ -95,14 +86,14 @@ again-less l ms j (suc n) h lt few = go (λ less. again-less l ms j n h less few
   where
     go : (j < n → spare (again l (sentBefore l j) ms) n + 1 ≤ spare l n) → (t : Bool) → eqb j n ≡ t → spare (again l (sentBefore l j) ms) (suc n) + 1 ≤ spare l (suc n)
     go ih true e = subst (λ k. spare (again l (sentBefore l j) ms) (suc k) + 1 ≤ spare l (suc k)) (eqb-true j n e)
-        (omega (arith, again-spare l (sentBefore l j) ms j h, count-more l (sentBefore l j) ms h))
-    go ih false e = omega (arith, ih (omega (arith, eqb-false j n e)), count-up l (sentBefore l j) ms (sentBefore l n) h)
+        (omega (arith, again-spare l (sentBefore l j) ms j, count-more l (sentBefore l j) ms h))
+    go ih false e = omega (arith, ih (omega (arith, eqb-false j n e)), count-up l (sentBefore l j) ms (sentBefore l n))
 
 -- a packet that waits and may be repeated lowers the weight when it is
 pub again-weight : (l : Link) (ms j : ℕ) → Sound l → j < l .waiting → mayRepeat l (sentBefore l j) ≡ true → weight (again l (sentBefore l j) ms) + 1 ≤ weight l
 again-weight l ms j s h may =
     let formed : Formed l = wellFormed-facts l (s .formed) in
-    let slot : slotOf l (sentBefore l j) < length (l .counts) = omega (arith, slotOf-lt l (sentBefore l j) (formed .settings .window-lo), formed .settings .window-hi, s .counts) in
+    let slot : slotOf l (sentBefore l j) < length (l .counts) = omega (arith, slotOf-small l (sentBefore l j) (formed .settings), s .counts) in
     omega (arith, again-less l ms j (l .waiting) slot h (ltb-true (countOf l (sentBefore l j)) (l .settings .repeats) may))
 
 -- ---- take
@@ -167,9 +158,6 @@ pub looked-look : (l : Link) (slots frame : List ℕ) (ms : ℕ) → Sound l →
 unfolding lookedAt
 looked-look l slots frame ms s alive = go (packetDue l (afterOldest l) ms) (packetDue l 0 ms) refl refl
   where
-    waits-so : (n : ℕ) → packetDue l n ms ≡ true → n < l .waiting
-    waits-so n e = ltb-true n (l .waiting) (and-left (ltb n (l .waiting)) (due (l .settings .transmit) (startOf l (sentBefore l n)) ms) e)
-
     formed : Formed l
     formed = wellFormed-facts l (s .formed)
 
@@ -187,6 +175,6 @@ looked-look l slots frame ms s alive = go (packetDue l (afterOldest l) ms) (pack
     go : (first second : Bool) → packetDue l (afterOldest l) ms ≡ first → packetDue l 0 ms ≡ second
         → Looked l (cond first (served l slots frame ms (sentBefore l (afterOldest l)))
         (cond second (served l slots frame ms (sentBefore l 0)) (acknowledgedIf (acknowledgeDue l ms) l slots frame))) (second || packetDue l 1 ms || acknowledgeDue l ms)
-    go true second e e₁ = served-look l slots frame ms (afterOldest l) (second || packetDue l 1 ms || acknowledgeDue l ms) s alive (waits-so (afterOldest l) e)
-    go false true e e₁ = served-look l slots frame ms 0 true s alive (waits-so 0 e₁)
+    go true second e e₁ = served-look l slots frame ms (afterOldest l) (second || packetDue l 1 ms || acknowledgeDue l ms) s alive (due-waits l (afterOldest l) ms e)
+    go false true e e₁ = served-look l slots frame ms 0 true s alive (due-waits l 0 ms e₁)
     go false false e e₁ = rw (older e) (acknowledged-look l slots frame (acknowledgeDue l ms) (and-left (l .acking) (due (l .settings .acknowledge) (l .ackstart) ms)))

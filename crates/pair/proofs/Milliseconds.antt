@@ -2,18 +2,18 @@
 use mathlib.Core.Path.{_≡_, refl, sym, _∙_}
 use mathlib.Core.Bool.{Bool, true, false, true≢false, _||_}
 use mathlib.Core.Logic.{_⊎_, inl, inr}
-use Prim.Native.Nat.{ℕ, suc, _+_, _*_, _≤_, _<_}
+use Prim.Native.Nat.{ℕ, suc, _+_, _*_, _≤_}
 use native.Mathlib.Nat.{mul-le-mul-right, suc-mul}
 use native.Mathlib.Omega.{arith}
 use borrow.Author.Tests.{ltb-true, ltb-false, lt-ltb}
 use lib.Dec.{ltb}
-use Rattle.base.proofs.Tests.{and-left}
+use Rattle.base.proofs.Tests.{and-left, or-first, or-second}
 use Rattle.state.specs.declared.Settings.{Settings}
 use Rattle.state.specs.declared.Link.{Link}
-use Rattle.state.specs.State.{sentBefore, startOf}
 use Rattle.state.specs.Timer.{due, onward}
 use Rattle.state.specs.Formed.{InRange}
 use Rattle.clock.specs.Look.{packetDue, acknowledgeDue}
+use Rattle.clock.proofs.Facts.{due-waits}
 use Rattle.pair.specs.System.{System, swap, IsClock}
 use Rattle.pair.specs.Round.{runs, dueAt, someRuns, someDue, Passes, stays, first, Round, round, other-first, Rounds, begin, next}
 use Rattle.pair.specs.Demand3.{Alive, InMilliseconds}
@@ -27,33 +27,19 @@ due-runs : (l : Link) (ms : ℕ) → dueAt l ms ≡ true → runs l ≡ true
 due-runs l ms e = go (packetDue l 0 ms) (packetDue l 1 ms) refl refl e
   where
     waits-so : (n : ℕ) → packetDue l n ms ≡ true → runs l ≡ true
-    waits-so n q =
-        let w : n < l .waiting = ltb-true n (l .waiting) (and-left (ltb n (l .waiting)) (due (l .settings .transmit) (startOf l (sentBefore l n)) ms) q) in
-        rw (lt-ltb 0 (l .waiting) (omega arith))
-
-    or-last : (a b : Bool) → b ≡ true → (a || b) ≡ true
-    or-last true b q = refl
-    or-last false b q = q
+    waits-so n q = or-first (ltb 0 (l .waiting)) (l .acking) (lt-ltb 0 (l .waiting) (omega (arith, due-waits l n ms q)))
 
     go : (a b : Bool) → packetDue l 0 ms ≡ a → packetDue l 1 ms ≡ b → (a || b || acknowledgeDue l ms) ≡ true → runs l ≡ true
     go true b p q z = waits-so 0 p
     go false true p q z = waits-so 1 q
-    go false false p q z = or-last (ltb 0 (l .waiting)) (l .acking) (and-left (l .acking) (due (l .settings .acknowledge) (l .ackstart) ms) z)
+    go false false p q z = or-second (ltb 0 (l .waiting)) (l .acking) (and-left (l .acking) (due (l .settings .acknowledge) (l .ackstart) ms) z)
 
 some-due-runs : (S : System) (ms : ℕ) → someDue S ms ≡ true → someRuns S ≡ true
 some-due-runs S ms e = go (dueAt (S .here .state) ms) refl e
   where
-    or-first : (a b : Bool) → a ≡ true → (a || b) ≡ true
-    or-first true b q = refl
-    or-first false b q = absurd (true≢false (sym q))
-
-    or-last : (a b : Bool) → b ≡ true → (a || b) ≡ true
-    or-last true b q = refl
-    or-last false b q = q
-
     go : (y : Bool) → dueAt (S .here .state) ms ≡ y → (y || dueAt (S .there .state) ms) ≡ true → someRuns S ≡ true
     go true p z = or-first (runs (S .here .state)) (runs (S .there .state)) (due-runs (S .here .state) ms p)
-    go false p z = or-last (runs (S .here .state)) (runs (S .there .state)) (due-runs (S .there .state) ms z)
+    go false p z = or-second (runs (S .here .state)) (runs (S .there .state)) (due-runs (S .there .state) ms z)
 
 -- the clock is moved by at most TRANS_TIMEOUT
 pub passes-short : (s : Settings) (S : System) (ms passed : ℕ) → InRange s → Inv s S → IsClock ms → Passes S ms passed → passed ≤ s .transmit

@@ -4,13 +4,12 @@ use mathlib.Core.Bool.{Bool, true, false, cond}
 use mathlib.Core.List.{List, [], _∷_, append-nil}
 use Prim.Native.Nat.{ℕ, suc, _%_, _+_, _*_, _≤_, _<_, max}
 use native.Mathlib.Omega.{arith}
-use borrow.Author.Tests.{ltb-true, ne-eqb}
+use borrow.Author.Tests.{ne-eqb}
 use lib.ListN.{length, getD}
-use lib.Dec.{eqb, ltb}
+use lib.Dec.{eqb}
 use Rattle.base.specs.Answer.{done, shortBuffer, linkLost, unexpected}
 use Rattle.base.specs.Buffer.{put}
 use Rattle.base.proofs.Put.{put-length}
-use Rattle.base.proofs.Tests.{and-left, and-right}
 use Rattle.frame.specs.declared.Heard.{Heard}
 use Rattle.frame.specs.declared.Heard.the-variants.{Size, Sum, Ack, Nak, Data}
 use Rattle.frame.specs.Steps.{heard, packetIn, acknowledgedIn}
@@ -21,26 +20,26 @@ use Rattle.state.specs.declared.Settings.{Settings}
 use Rattle.state.specs.declared.Link.{Link}
 use Rattle.state.specs.declared.Outcome.{Outcome}
 use Rattle.state.specs.Fields.{withLost}
-use Rattle.state.specs.State.{lastCorrect, behind, waits, sentBefore, startOf}
-use Rattle.state.specs.Timer.{due}
+use Rattle.state.specs.State.{lastCorrect, sentBefore}
 use Rattle.state.specs.Gate.{After, refused, gated, gateOf}
 use Rattle.state.specs.Formed.{InRange, Formed, Open}
-use Rattle.state.proofs.Facts.{inRange-facts, wellFormed-facts, gateOf-facts}
+use Rattle.state.proofs.Facts.{inRange-facts, wellFormed-facts, gateOf-facts, gated-cases}
 use Rattle.state.proofs.Keeps.{marked-sound}
-use Rattle.send.specs.Repeat.{partOf, dataSent, mayRepeat}
+use Rattle.send.specs.Repeat.{partOf, mayRepeat}
 use Rattle.send.specs.Submit.{submitGate, sentFirst, packetAccepted, submitted}
 use Rattle.send.specs.Makers.{silent, ends, sendsAck, sendsRepeat}
-use Rattle.send.proofs.Facts.{Accepting, submitGate-facts, part-fits, behind-sentBefore}
-use Rattle.send.proofs.Keeps.{dataSent-sound, queued-sound}
+use Rattle.send.proofs.Facts.{Accepting, submitGate-facts, part-fits}
+use Rattle.send.proofs.Keeps.{sentFirst-sound}
 use Rattle.clock.specs.Look.{packetDue, acknowledgeDue, afterOldest, exhausted, served, acknowledgedIf, lookedAt, looked, acknowledgedNow}
 use Rattle.receive.specs.Steps.{freed, repeatable, afterDelivery}
 use Rattle.receive.specs.Take.{obeyed, taken}
-use Rattle.receive.proofs.Facts.{data-taken}
+use Rattle.receive.proofs.Facts.{repeatable-holds, data-taken}
+use Rattle.clock.proofs.Facts.{due-waits}
 use Rattle.pair.specs.System.{System, swap, sentBy, takenBy, deliveredBy, leftBy, called, submits, takes, looks, acknowledges, Harm, IsClock, Move, submit, take-head, look, acknowledge, harm, Moment, start, here, there}
 use Rattle.pair.specs.Demand3.{FirstSoMany}
 use Rattle.pair.proofs.Line.{Line, data-next, ack-next, idle-next, Idle, by-size, by-sum, a-nak, line-taken, line-freed, line-mono}
 use Rattle.pair.proofs.Invariant.{Inv, inv-swap, restated, delivering, adding, inv-turned, inv-passed, inv-freed, inv-delivered, inv-added, inv-harm, inv-start, inv-first, window-small}
-use Rattle.pair.proofs.Calls.{sent-frame, last-said, gated-cases, Before, ends-silent, ends-ack, ends-nothing, ends-nak, ends-repeat}
+use Rattle.pair.proofs.Calls.{sent-frame, last-said, Before, ends-silent, ends-ack, ends-nothing, ends-nak, ends-repeat}
 
 -- ---- take
 
@@ -61,12 +60,8 @@ idle-kept s S frame received rest ms (Nak k) c r room I small (a-nak k₁) = go 
 
     go : (t : Bool) → repeatable l k ≡ t → Inv s (taking S received rest (ends (cond t (sendsRepeat l (S .here .slots) frame ms k) (silent l frame)) done 0 (S .here .slots)))
     go true e =
-        let formed : Formed l = wellFormed-facts l (I .here .sound .formed) in
-        let same : sentBefore l (behind l k) ≡ k = behind-sentBefore l k (formed .next) small in
-        let wait : behind l k < l .waiting = ltb-true (behind l k) (l .waiting) (and-left (waits l k) (mayRepeat l k) e) in
-        let may : mayRepeat l k ≡ true = and-right (waits l k) (mayRepeat l k) e in
-        subst (λ n. Inv s (taking S received rest (ends (sendsRepeat l (S .here .slots) frame ms n) done 0 (S .here .slots)))) same
-        (ends-repeat s S (behind l k) ms frame rest done c r room I wait (subst (λ n. mayRepeat l n ≡ true) (sym same) may))
+        repeatable-holds (λ n. Inv s (taking S received rest (ends (sendsRepeat l (S .here .slots) frame ms n) done 0 (S .here .slots)))) l k
+        (wellFormed-facts l (I .here .sound .formed) .next) small e (λ j wait may. ends-repeat s S j ms frame rest done c r room I wait may)
     go false e = ends-nothing s S frame rest done I
 
 -- data that is not the expected one
@@ -181,7 +176,7 @@ accepted-kept s S frame packet ms c r I a =
     data-heard (s .d) (l .next) (lastCorrect l) packet (formed .next) (omega arith) (a .least) (omega (arith, a .most, r .d-lo)) ∙ ap (λ (k : ℕ). Data (l .next) false k (length packet)) said in
     subst (Inv s) (sym whole)
     (inv-added s S packet bytes ms I c
-    (queued-sound (dataSent l (l .next) ms 0) (length packet) (dataSent-sound l (l .next) ms 0 (I .here .sound) (omega arith)) (a .least) (a .most) (a .place))
+    (sentFirst-sound l ms (length (S .here .slots)) (length frame) (length packet) (I .here .sound) a)
     (a .least) (a .most) (a .place) (put-length (S .here .slots) packet (partOf l (l .next)) fits) heard-as (packet-heard (l .next) (lastCorrect l) packet))
 
 pub submit-kept : (s : Settings) (S : System) (frame packet : List ℕ) (ms : ℕ) → IsClock ms → InRange s → Inv s S → Inv s (submits S frame ms packet)
@@ -227,14 +222,11 @@ lookedAt-kept s S frame ms c r room I = go (packetDue l (afterOldest l) ms) (pac
     l : Link
     l = S .here .state
 
-    waits-so : (n : ℕ) → packetDue l n ms ≡ true → n < l .waiting
-    waits-so n e = ltb-true n (l .waiting) (and-left (ltb n (l .waiting)) (due (l .settings .transmit) (startOf l (sentBefore l n)) ms) e)
-
     go : (first second : Bool) → packetDue l (afterOldest l) ms ≡ first → packetDue l 0 ms ≡ second
         → Inv s (called S (cond first (served l (S .here .slots) frame ms (sentBefore l (afterOldest l)))
         (cond second (served l (S .here .slots) frame ms (sentBefore l 0)) (acknowledgedIf (acknowledgeDue l ms) l (S .here .slots) frame))) (S .here .queue) [] [])
-    go true second e e₁ = served-kept s S frame (afterOldest l) ms c r room I (waits-so (afterOldest l) e)
-    go false true e e₁ = served-kept s S frame 0 ms c r room I (waits-so 0 e₁)
+    go true second e e₁ = served-kept s S frame (afterOldest l) ms c r room I (due-waits l (afterOldest l) ms e)
+    go false true e e₁ = served-kept s S frame 0 ms c r room I (due-waits l 0 ms e₁)
     go false false e e₁ = acknowledged-kept s S frame (acknowledgeDue l ms) r room I
 
 -- behind the gate 1, 2, 3, with a queue that stays

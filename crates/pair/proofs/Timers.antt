@@ -1,10 +1,11 @@
 -- The first moment at which a timer is due. Assumes nothing.
 use mathlib.Core.Path.{_≡_, refl, sym, ap, subst}
-use mathlib.Core.Bool.{Bool, true, false, true≢false, _&&_, _||_}
+use mathlib.Core.Bool.{Bool, true, false, _||_}
 use Prim.Native.Nat.{ℕ, zero, suc, _+_, _≤_, _<_}
 use native.Mathlib.Omega.{arith}
 use borrow.Author.Tests.{eqb-true, eqb-false}
 use lib.Dec.{eqb, ltb}
+use Rattle.base.proofs.Tests.{and-both, or-first, or-second}
 use Rattle.state.specs.declared.Settings.{Settings}
 use Rattle.state.specs.declared.Link.{Link}
 use Rattle.state.specs.State.{sentBefore, startOf}
@@ -42,19 +43,6 @@ least test bound h = search-from test bound 0 bound (omega arith) h (λ i lt. ab
 
 -- ---- an end's timers
 
-pub or-1 : (a b c : Bool) → a ≡ true → (a || b || c) ≡ true
-or-1 true b c e = refl
-or-1 false b c e = absurd (true≢false (sym e))
-
-pub or-3 : (a b c : Bool) → c ≡ true → (a || b || c) ≡ true
-or-3 true b c e = refl
-or-3 false true c e = refl
-or-3 false false c e = e
-
-pub and-intro : (a b : Bool) → a ≡ true → b ≡ true → (a && b) ≡ true
-and-intro true b p q = q
-and-intro false b p q = absurd (true≢false (sym p))
-
 -- where a timer of the end runs, one is due after at most TRANS_TIMEOUT
 pub record Soon (test : ℕ → Bool) (most : ℕ) : Type 0 where
   pub after : ℕ
@@ -71,30 +59,29 @@ end-soon s l ms r e t c q = go (ltb 0 (l .waiting)) refl q
     acknowledge = ap (λ (x : Settings). x .acknowledge) e
 
     go : (y : Bool) → ltb 0 (l .waiting) ≡ y → (y || l .acking) ≡ true → Soon (λ k. dueAt l (onward ms k)) (s .transmit)
-    go true w z = record {
-      after = left (l .settings .transmit) (startOf l (sentBefore l 0)) ms;
-      within = omega (arith, transmit);
-      holds = or-1 (packetDue l 0 (onward ms (left (l .settings .transmit) (startOf l (sentBefore l 0)) ms))) (packetDue l 1 (onward ms (left (l .settings .transmit) (startOf l (sentBefore l 0)) ms))) (acknowledgeDue l (onward ms (left (l .settings .transmit) (startOf l (sentBefore l 0)) ms)))
-          (and-intro (ltb 0 (l .waiting)) (due (l .settings .transmit) (startOf l (sentBefore l 0)) (onward ms (left (l .settings .transmit) (startOf l (sentBefore l 0)) ms))) w
-          (left-due (l .settings .transmit) (startOf l (sentBefore l 0)) ms (omega (arith, transmit, r .transmit-hi)) (t .0 _) c));
-    }
-    go false w z = record {
-      after = left (l .settings .acknowledge) (l .ackstart) ms;
-      within = omega (arith, acknowledge, r .acknowledge-hi);
-      holds = or-3 (packetDue l 0 (onward ms (left (l .settings .acknowledge) (l .ackstart) ms))) (packetDue l 1 (onward ms (left (l .settings .acknowledge) (l .ackstart) ms))) (acknowledgeDue l (onward ms (left (l .settings .acknowledge) (l .ackstart) ms)))
-          (and-intro (l .acking) (due (l .settings .acknowledge) (l .ackstart) (onward ms (left (l .settings .acknowledge) (l .ackstart) ms))) z
-          (left-due (l .settings .acknowledge) (l .ackstart) ms (omega (arith, acknowledge, r .acknowledge-hi, r .transmit-hi)) (t .1) c));
-    }
+    go true w z =
+        let k : ℕ = left (l .settings .transmit) (startOf l (sentBefore l 0)) ms in
+        let then : ℕ = onward ms k in
+        record {
+          after = k;
+          within = omega (arith, transmit);
+          holds = or-first (packetDue l 0 then || packetDue l 1 then) (acknowledgeDue l then)
+              (or-first (packetDue l 0 then) (packetDue l 1 then)
+              (and-both (ltb 0 (l .waiting)) (due (l .settings .transmit) (startOf l (sentBefore l 0)) then) w
+              (left-due (l .settings .transmit) (startOf l (sentBefore l 0)) ms (omega (arith, transmit, r .transmit-hi)) (t .0 _) c)));
+        }
+    go false w z =
+        let k : ℕ = left (l .settings .acknowledge) (l .ackstart) ms in
+        let then : ℕ = onward ms k in
+        record {
+          after = k;
+          within = omega (arith, acknowledge, r .acknowledge-hi);
+          holds = or-second (packetDue l 0 then || packetDue l 1 then) (acknowledgeDue l then)
+              (and-both (l .acking) (due (l .settings .acknowledge) (l .ackstart) then) z
+              (left-due (l .settings .acknowledge) (l .ackstart) ms (omega (arith, acknowledge, r .acknowledge-hi, r .transmit-hi)) (t .1) c));
+        }
 
 -- ---- both ends
-
-pub or-left : (a b : Bool) → a ≡ true → (a || b) ≡ true
-or-left true b e = refl
-or-left false b e = absurd (true≢false (sym e))
-
-pub or-second : (a b : Bool) → b ≡ true → (a || b) ≡ true
-or-second true b e = refl
-or-second false b e = e
 
 unfoldable pub some-soon : (s : Settings) (S : System) (ms : ℕ) → InRange s → Inv s S → IsClock ms → someRuns S ≡ true → Soon (λ k. someDue S (onward ms k)) (s .transmit)
 some-soon s S ms r I c q = go (runs (S .here .state)) refl q
@@ -102,7 +89,7 @@ some-soon s S ms r I c q = go (runs (S .here .state)) refl q
     go : (y : Bool) → runs (S .here .state) ≡ y → (y || runs (S .there .state)) ≡ true → Soon (λ k. someDue S (onward ms k)) (s .transmit)
     go true e z =
         let k : Soon (λ k. dueAt (S .here .state) (onward ms k)) (s .transmit) = end-soon s (S .here .state) ms r (I .here .settings) (I .here .timed) c e in
-        record { after = k .after; within = k .within; holds = or-left (dueAt (S .here .state) (onward ms (k .after))) (dueAt (S .there .state) (onward ms (k .after))) (k .holds) }
+        record { after = k .after; within = k .within; holds = or-first (dueAt (S .here .state) (onward ms (k .after))) (dueAt (S .there .state) (onward ms (k .after))) (k .holds) }
     go false e z =
         let k : Soon (λ k. dueAt (S .there .state) (onward ms k)) (s .transmit) = end-soon s (S .there .state) ms r (I .there .settings) (I .there .timed) c z in
         record { after = k .after; within = k .within; holds = or-second (dueAt (S .here .state) (onward ms (k .after))) (dueAt (S .there .state) (onward ms (k .after))) (k .holds) }

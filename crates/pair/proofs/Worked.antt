@@ -13,7 +13,7 @@ use Rattle.receive.specs.Take.{taken}
 use Rattle.clock.specs.Look.{looked}
 use Rattle.pair.specs.System.{lost, damaged, submit, take-head, harm, Moment, start, here, there}
 use Rattle.pair.proofs.Timers.{moved, some-soon, end-soon, least, search-from}
-use Rattle.pair.proofs.Exist.{rounds-exist, led, a-round, emptied, stepped, watched, blank}
+use Rattle.pair.proofs.Exist.{rounds-exist, led, a-round, emptied, emptied-by, stepped, watched, watched-by, blank}
 use Rattle.pair.specs.Run.{settings, buffer, slots, loanA, loanB, moment0, moment1, moment2, moment3, moment4, moment5, moment6, WorkedRun}
 
 reached : Moment settings moment6
@@ -28,7 +28,7 @@ reached =
     here moment5 moment6 m5 (take-head buffer (0xFF ∷ []) [] 4294967279 (omega arith) refl)
 
 pub worked : WorkedRun
-unfolding submitted taken looked freshOf put frameOf checksumOf inRange rounds-exist led a-round emptied stepped watched moved some-soon end-soon least search-from blank
+unfolding submitted taken looked freshOf put frameOf checksumOf inRange rounds-exist led a-round emptied emptied-by stepped watched watched-by moved some-soon end-soon least search-from blank
 worked = record {
   moment = reached;
   nak = refl;

@@ -1,42 +1,54 @@
 -- What taking a frame cites. Assumes nothing.
-use mathlib.Core.Path.{_≡_, refl, sym}
-use mathlib.Core.Bool.{Bool, true, false, cond, true≢false, _&&_}
+use mathlib.Core.Path.{_≡_, refl, sym, subst}
+use mathlib.Core.Bool.{Bool, true, false, true≢false, _&&_}
 use mathlib.Core.List.{List}
-use Prim.Native.Nat.{ℕ, _≤_}
+use Prim.Native.Nat.{ℕ, _<_, _≤_}
 use lib.ListN.{length}
 use lib.Dec.{eqb}
 use native.Mathlib.Omega.{arith}
-use borrow.Author.Tests.{eq-eqb, ne-eqb, eqb-true, eqb-false}
+use borrow.Author.Tests.{ltb-true, eq-eqb, ne-eqb, eqb-true, eqb-false}
 use Rattle.base.specs.Answer.{done, unexpected}
-use Rattle.base.proofs.Tests.{and-left, and-right}
+use Rattle.base.proofs.Tests.{and-left, and-right, cond-cases}
 use Rattle.frame.specs.declared.Heard.the-variants.{Data}
 use Rattle.frame.specs.Steps.{heard}
 use Rattle.state.specs.declared.Link.{Link}
-use Rattle.state.specs.State.{waits}
 use Rattle.state.specs.declared.Outcome.{Outcome}
+use Rattle.state.specs.State.{behind, waits, sentBefore}
 use Rattle.state.specs.Gate.{After, gateOf}
 use Rattle.state.specs.Formed.{Open}
-use Rattle.state.proofs.Facts.{gateOf-facts}
+use Rattle.state.proofs.Facts.{gated-open}
 use Rattle.send.specs.Repeat.{mayRepeat, Ready}
-use Rattle.send.proofs.Facts.{named-ready}
+use Rattle.send.proofs.Facts.{waiting-ready}
 use Rattle.send.specs.Makers.{silent, ends, sendsAck}
 use Rattle.receive.specs.Steps.{freed, repeatable, afterStep6, afterDelivery}
 use Rattle.receive.specs.Take.{repeatedOr, dataTaken, obeyed, taken}
-
--- an open gate has room for a control frame
-pub frame-room : (l : Link) (slots frame : ℕ) → gateOf l slots frame ≡ done → 5 ≤ frame
-frame-room l slots frame e = let o = gateOf-facts l slots frame e in omega (arith, o .entered .frame-room, o .entered .formed .settings)
 
 -- take behind an open gate
 pub taken-open : (l : Link) (slots frame : List ℕ) (ms : ℕ) (received : List ℕ) → gateOf l (length slots) (length frame) ≡ done
     → taken l slots frame ms received ≡ obeyed l slots frame ms (heard (l .settings .d) received)
 unfolding taken
-taken-open l slots frame ms received e = rw e
+taken-open l slots frame ms received e = gated-open (gateOf l (length slots) (length frame)) l slots frame (obeyed l slots frame ms (heard (l .settings .d) received)) e
 
--- what step 6 would repeat can be repeated
+-- ---- step 6
+
+pub freed-fewer : (l : Link) (number : ℕ) → freed l number .waiting ≤ l .waiting
+freed-fewer l number =
+    cond-cases (λ n. n ≤ l .waiting) (waits l number) (behind l number) (l .waiting)
+    (λ e. omega (arith, ltb-true (behind l number) (l .waiting) e)) (λ e. omega arith)
+
+-- what step 6 would repeat waits: what holds of each packet that waits and may be repeated, named by how many were sent after it, holds of it
+pub repeatable-holds : (P : ℕ → Type 0) (l : Link) (number : ℕ) → l .next ≤ 3 → number ≤ 3 → repeatable l number ≡ true
+    → ((n : ℕ) → n < l .waiting → mayRepeat l (sentBefore l n) ≡ true → P (sentBefore l n)) → P number
+repeatable-holds P l number next h e f =
+    let same : sentBefore l (behind l number) ≡ number = omega arith in
+    let waiting : behind l number < l .waiting = ltb-true (behind l number) (l .waiting) (and-left (waits l number) (mayRepeat l number) e) in
+    let may : mayRepeat l number ≡ true = and-right (waits l number) (mayRepeat l number) e in
+    subst P same (f (behind l number) waiting (subst (λ k. mayRepeat l k ≡ true) (sym same) may))
+
+-- so it can be repeated
 pub repeatable-ready : (l : Link) (number slots frame : ℕ) → Open l slots frame → number ≤ 3 → repeatable l number ≡ true → Ready l number slots frame
 repeatable-ready l number slots frame o h e =
-    named-ready l number slots frame o h (and-left (waits l number) (mayRepeat l number) e) (and-right (waits l number) (mayRepeat l number) e)
+    repeatable-holds (λ k. Ready l k slots frame) l number (o .entered .formed .next) h e (λ n w may. waiting-ready l n slots frame o w may)
 
 -- also in the state after step 6, which a NAK leaves as it is
 pub nak-ready : (l : Link) (nak : Bool) (number slots frame : ℕ) → Open l slots frame → number ≤ 3 → (nak && repeatable l number) ≡ true
@@ -48,6 +60,8 @@ nak-ready l false number slots frame o h e = absurd (true≢false (sym e))
 pub afterStep6-expected : (l : Link) (nak : Bool) (number : ℕ) → afterStep6 l nak number .expected ≡ l .expected
 afterStep6-expected l true number = refl
 afterStep6-expected l false number = refl
+
+-- ---- step 7
 
 -- a data frame taken, of the state after step 6, the one after step 7, and whether a packet is repeated
 pub delivered-data : (l sixth seventh : Link) (slots frame : List ℕ) (ms number : ℕ) (nak repeat : Bool) (acknowledged len : ℕ) (r : After Outcome)
@@ -70,9 +84,8 @@ pub data-taken : (P : After Outcome → Type 0) (l : Link) (slots frame : List �
     → ((number ≡ l .expected → ⊥) → P (ends (sendsAck (freed l acknowledged) frame) unexpected 0 slots))
     → P (obeyed l slots frame ms (Data number false acknowledged len))
 unfolding obeyed dataTaken
-data-taken P l slots frame ms number acknowledged len same other = go (eqb number (l .expected)) refl
-  where
-    go : (t : Bool) → eqb number (l .expected) ≡ t
-        → P (cond t (ends (silent (afterDelivery (freed l acknowledged) ms) frame) done len slots) (ends (sendsAck (freed l acknowledged) frame) unexpected 0 slots))
-    go true e = same (eqb-true number (l .expected) e)
-    go false e = other (eqb-false number (l .expected) e)
+data-taken P l slots frame ms number acknowledged len same other =
+    cond-cases P (eqb number (l .expected))
+    (ends (silent (afterDelivery (freed l acknowledged) ms) frame) done len slots)
+    (ends (sendsAck (freed l acknowledged) frame) unexpected 0 slots)
+    (λ e. same (eqb-true number (l .expected) e)) (λ e. other (eqb-false number (l .expected) e))

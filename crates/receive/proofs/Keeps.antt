@@ -2,9 +2,8 @@
 use mathlib.Core.Path.{_≡_, refl}
 use mathlib.Core.Bool.{Bool, true, false, cond, _&&_}
 use mathlib.Core.List.{List}
-use Prim.Native.Nat.{ℕ, _+_, _%_, _≤_}
+use Prim.Native.Nat.{ℕ, _+_, _%_}
 use native.Mathlib.Omega.{arith}
-use borrow.Author.Tests.{ltb-true}
 use lib.ListN.{length}
 use lib.Dec.{eqb}
 use Rattle.base.specs.Answer.{done, unexpected}
@@ -13,7 +12,7 @@ use Rattle.frame.specs.declared.Heard.{Heard}
 use Rattle.frame.specs.declared.Heard.the-variants.{Size, Sum, Code, ControlSize, Length, Reset, Ack, Nak, Data}
 use Rattle.frame.specs.Steps.{heard}
 use Rattle.state.specs.declared.Link.{Link}
-use Rattle.state.specs.State.{behind, waits}
+use Rattle.state.specs.State.{waits}
 use Rattle.state.specs.Gate.{gateOf}
 use Rattle.state.specs.Formed.{Formed, Sound}
 use Rattle.state.proofs.Facts.{wellFormed-facts}
@@ -23,16 +22,13 @@ use Rattle.send.specs.Makers.{Sending, silent, ends, sendsAck}
 use Rattle.send.proofs.Keeps.{again-sound, quiet-sound, sendsNak-sound}
 use Rattle.receive.specs.Steps.{freed, repeatable, afterStep6, afterDelivery}
 use Rattle.receive.specs.Take.{repeatedOr, dataTaken, obeyed, taken}
+use Rattle.receive.proofs.Facts.{freed-fewer}
 
 pub freed-sound : (l : Link) (number : ℕ) → Sound l → Sound (freed l number)
 freed-sound l number s =
     let f : Formed l = wellFormed-facts l (s .formed) in
-    changed-sound l (l .starts) (l .counts) (l .ackstart) (l .expected) (cond (waits l number) (behind l number) (l .waiting)) (l .acking) (l .naked) (l .lost) s
-    (s .starts) (s .counts) (f .expected) (fewer (waits l number) refl) (f .counts)
-  where
-    fewer : (t : Bool) → waits l number ≡ t → cond t (behind l number) (l .waiting) ≤ l .waiting
-    fewer true e = omega (arith, ltb-true (behind l number) (l .waiting) e)
-    fewer false e = omega arith
+    changed-sound l (l .starts) (l .counts) (l .ackstart) (l .expected) (freed l number .waiting) (l .acking) (l .naked) (l .lost) s
+    (s .starts) (s .counts) (f .expected) (freed-fewer l number) (f .counts)
 
 afterStep6-sound : (l : Link) (nak : Bool) (number : ℕ) → Sound l → Sound (afterStep6 l nak number)
 afterStep6-sound l true number s = s

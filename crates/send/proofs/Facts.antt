@@ -1,5 +1,5 @@
 -- What lets a packet be taken and a frame be made. Assumes nothing.
-use mathlib.Core.Path.{_≡_, sym, ap, subst}
+use mathlib.Core.Path.{_≡_, ap}
 use mathlib.Core.Bool.{Bool, true, cond}
 use mathlib.Core.List.{List}
 use Prim.Native.Nat.{ℕ, _+_, _-_, _<_, _≤_}
@@ -12,8 +12,8 @@ use Rattle.base.specs.Answer.{done, packetSize, windowFull}
 use Rattle.base.proofs.Tests.{within-low, within-high, passed, firstOf-left, firstOf-right}
 use Rattle.state.specs.declared.Link.{Link}
 use Rattle.state.specs.Bounds.{limitOf}
-use Rattle.state.specs.State.{sentBefore, behind, waits, slotOf, lengthOf, countOf}
 use Rattle.state.specs.declared.Outcome.{Outcome}
+use Rattle.state.specs.State.{sentBefore, slotOf, lengthOf, countOf}
 use Rattle.state.specs.Gate.{after, gateOf}
 use Rattle.state.specs.Formed.{InRange, Formed, Open}
 use Rattle.state.proofs.Facts.{gateOf-facts, slotOf-lt, part-inside}
@@ -66,17 +66,6 @@ waiting-ready l n slots frame o w e =
     let small : number ≤ 3 = omega arith in
     let count : countOf l number < 255 = omega (arith, few, s .repeats-hi) in
     ((small, s .window-lo, s .window-hi), (part-fits l number (lengthOf l number) slots frame o (f .lengths n w .most), len), (o .entered .frame-room, count))
-
--- the number that as many were sent after as after this one is this one
-pub behind-sentBefore : (l : Link) (number : ℕ) → l .next ≤ 3 → number ≤ 3 → sentBefore l (behind l number) ≡ number
-behind-sentBefore l number n h = omega arith
-
--- so too for a packet that is named by its number
-pub named-ready : (l : Link) (number slots frame : ℕ) → Open l slots frame → number ≤ 3 → waits l number ≡ true → mayRepeat l number ≡ true → Ready l number slots frame
-named-ready l number slots frame o h w e =
-    let same : sentBefore l (behind l number) ≡ number = behind-sentBefore l number (o .entered .formed .next) h in
-    let waiting : behind l number < l .waiting = ltb-true (behind l number) (l .waiting) w in
-    subst (λ k. Ready l k slots frame) same (waiting-ready l (behind l number) slots frame o waiting (subst (λ k. mayRepeat l k ≡ true) (sym same) e))
 
 -- a call that ends with what a maker left
 pub ended : (r : Outcome) (s : Sent) (slots frame : List ℕ) (x : Sending) (answer delivered : ℕ)

@@ -1,49 +1,35 @@
 -- What an end sends keeps its state sound. Assumes nothing.
-use mathlib.Core.Path.{_≡_, refl, sym, subst, _∙_}
+use mathlib.Core.Path.{_≡_, refl, _∙_}
 use mathlib.Core.Bool.{Bool, true, false, cond}
 use mathlib.Core.List.{List}
-use Prim.Native.Nat.{ℕ, zero, suc, _+_, _-_, _%_, _<_, _≤_}
+use Prim.Native.Nat.{ℕ, zero, suc, _+_, _%_, _<_, _≤_}
 use native.Mathlib.Omega.{arith}
-use borrow.Author.Tests.{ltb-true, eqb-true, eqb-false}
-use lib.ListN.{length, getD, set, length-set}
+use borrow.Author.Tests.{ltb-true}
+use lib.ListN.{length, set, length-set}
 use lib.Seq.{getD-set-same, getD-set-other}
-use lib.Dec.{eqb}
-use Rattle.base.specs.Answer.{done}
+use Rattle.base.proofs.Put.{set-cases}
 use Rattle.frame.specs.Bytes.{nakFrame}
 use Rattle.state.specs.declared.Link.{Link}
 use Rattle.state.specs.Bounds.{limitOf}
 use Rattle.state.specs.State.{lastCorrect, sentBefore, slotOf, lengthOf, countOf}
-use Rattle.state.specs.Formed.{InRange, Length, Formed, Sound}
-use Rattle.state.proofs.Facts.{slotOf-lt, wellFormed-facts, facts-wellFormed}
+use Rattle.state.specs.Formed.{Length, Formed, Sound}
+use Rattle.state.proofs.Facts.{slotOf-small, slots-apart, wellFormed-facts, facts-wellFormed}
 use Rattle.state.proofs.Keeps.{changed-sound, marked-sound, gated-sound}
 use Rattle.send.specs.Repeat.{dataSent, again, mayRepeat}
 use Rattle.send.specs.Makers.{silent, sends, quiet, marked, sendsNak}
-use Rattle.send.specs.Submit.{submitGate, queued, sentFirst, packetAccepted, submitted}
+use Rattle.send.specs.Submit.{submitGate, added, sentFirst, packetAccepted, submitted}
 use Rattle.send.proofs.Facts.{Accepting, submitGate-facts}
-
-slot-small : (l : Link) (number : ℕ) → InRange (l .settings) → slotOf l number < 2
-slot-small l number r = omega (arith, slotOf-lt l number (r .window-lo), r .window-hi)
 
 -- ---- a data frame sent
 
--- one count that is small enough, put among others that are
-set-counts : (counts : List ℕ) (slot count most : ℕ) → slot < length counts → count ≤ most → ((i : ℕ) → i < 2 → getD counts i 0 ≤ most)
-    → (i : ℕ) → i < 2 → getD (set counts slot count) i 0 ≤ most
-set-counts counts slot count most h c f i w = go (eqb i slot) refl
-  where
-    go : (t : Bool) → eqb i slot ≡ t → getD (set counts slot count) i 0 ≤ most
-    go true e = subst (λ k. getD (set counts slot count) k 0 ≤ most) (sym (eqb-true i slot e)) (omega (arith, getD-set-same counts slot count 0 h))
-    go false e = omega (arith, getD-set-other counts slot i count 0 (eqb-false i slot e), f i w)
-
-pub dataSent-sound : (l : Link) (number ms count : ℕ) → Sound l → count ≤ l .settings .repeats → Sound (dataSent l number ms count)
+dataSent-sound : (l : Link) (number ms count : ℕ) → Sound l → count ≤ l .settings .repeats → Sound (dataSent l number ms count)
 dataSent-sound l number ms count s c =
     let f : Formed l = wellFormed-facts l (s .formed) in
-    let h : slotOf l number < length (l .counts) = omega (arith, slot-small l number (f .settings), s .counts) in
     changed-sound l (set (l .starts) (slotOf l number) ms) (set (l .counts) (slotOf l number) count) (l .ackstart) (l .expected) (l .waiting) false (l .naked) (l .lost) s
     (length-set (l .starts) (slotOf l number) ms ∙ s .starts)
     (length-set (l .counts) (slotOf l number) count ∙ s .counts)
     (f .expected) (omega arith)
-    (set-counts (l .counts) (slotOf l number) count (l .settings .repeats) h c (f .counts))
+    (λ i h. set-cases (λ n. n ≤ l .settings .repeats) (l .counts) (slotOf l number) i count (λ e. c) (f .counts i h))
 
 pub again-sound : (l : Link) (number ms : ℕ) → Sound l → mayRepeat l number ≡ true → Sound (again l number ms)
 again-sound l number ms s m = dataSent-sound l number ms (countOf l number + 1) s (omega (arith, ltb-true (countOf l number) (l .settings .repeats) m))
@@ -63,38 +49,35 @@ sendsNak-sound l frame s = go (l .naked)
 -- ---- submit
 
 -- the newest packet has the new length; the one before keeps its own, since in a window of two the other slot is its
-newest-length : (l : Link) (packet : ℕ) → Sound l → 1 ≤ packet → packet ≤ limitOf (l .settings) → Length (queued l packet) 0
+newest-length : (l : Link) (packet : ℕ) → Sound l → 1 ≤ packet → packet ≤ limitOf (l .settings) → Length (added l packet) 0
 newest-length l packet s lo hi =
     let f : Formed l = wellFormed-facts l (s .formed) in
-    let number : sentBefore (queued l packet) 0 ≡ l .next = omega (arith, f .next) in
-    let same : lengthOf (queued l packet) (l .next) ≡ packet =
-    getD-set-same (l .lengths) (slotOf l (l .next)) packet 0 (omega (arith, slot-small l (l .next) (f .settings), s .lengths)) in
-    let e : lengthOf (queued l packet) (sentBefore (queued l packet) 0) ≡ packet = rw number same in
+    let number : sentBefore (added l packet) 0 ≡ l .next = omega (arith, f .next) in
+    let same : lengthOf (added l packet) (l .next) ≡ packet =
+    getD-set-same (l .lengths) (slotOf l (l .next)) packet 0 (omega (arith, slotOf-small l (l .next) (f .settings), s .lengths)) in
+    let e : lengthOf (added l packet) (sentBefore (added l packet) 0) ≡ packet = rw number same in
     record { least = omega (arith, e); most = omega (arith, e) }
 
-slots-apart : (next window : ℕ) → next ≤ 3 → window ≡ 2 → (next + 3 - 0) % 4 % window ≡ next % window → ⊥
-slots-apart next window h w e = omega (arith, subst (λ k. (next + 3 - 0) % 4 % k ≡ next % k) w e)
-
-older-length : (l : Link) (packet n : ℕ) → Sound l → l .waiting < l .settings .window → n < l .waiting → Length (queued l packet) (suc n)
+older-length : (l : Link) (packet n : ℕ) → Sound l → l .waiting < l .settings .window → n < l .waiting → Length (added l packet) (suc n)
 older-length l packet n s place h =
     let f : Formed l = wellFormed-facts l (s .formed) in
     let one : n ≡ 0 = omega (arith, f .settings) in
     let two : l .settings .window ≡ 2 = omega (arith, f .settings) in
-    let number : sentBefore (queued l packet) (suc n) ≡ sentBefore l 0 = omega (arith, f .next) in
-    let kept : lengthOf (queued l packet) (sentBefore l 0) ≡ lengthOf l (sentBefore l 0) =
-    getD-set-other (l .lengths) (slotOf l (l .next)) (slotOf l (sentBefore l 0)) packet 0 (slots-apart (l .next) (l .settings .window) (f .next) two) in
-    let e : lengthOf (queued l packet) (sentBefore (queued l packet) (suc n)) ≡ lengthOf l (sentBefore l 0) = rw number kept in
+    let number : sentBefore (added l packet) (suc n) ≡ sentBefore l 0 = omega (arith, f .next) in
+    let kept : lengthOf (added l packet) (sentBefore l 0) ≡ lengthOf l (sentBefore l 0) =
+    getD-set-other (l .lengths) (slotOf l (l .next)) (slotOf l (sentBefore l 0)) packet 0 (slots-apart l (sentBefore l 0) two refl) in
+    let e : lengthOf (added l packet) (sentBefore (added l packet) (suc n)) ≡ lengthOf l (sentBefore l 0) = rw number kept in
     let first : Length l 0 = f .lengths 0 (omega arith) in
     record { least = omega (arith, e, first .least); most = omega (arith, e, first .most) }
 
-pub queued-sound : (l : Link) (packet : ℕ) → Sound l → 1 ≤ packet → packet ≤ limitOf (l .settings) → l .waiting < l .settings .window → Sound (queued l packet)
-queued-sound l packet s lo hi place =
+added-sound : (l : Link) (packet : ℕ) → Sound l → 1 ≤ packet → packet ≤ limitOf (l .settings) → l .waiting < l .settings .window → Sound (added l packet)
+added-sound l packet s lo hi place =
     let f : Formed l = wellFormed-facts l (s .formed) in
     record {
       starts = s .starts;
       lengths = length-set (l .lengths) (slotOf l (l .next)) packet ∙ s .lengths;
       counts = s .counts;
-      formed = facts-wellFormed (queued l packet) (record {
+      formed = facts-wellFormed (added l packet) (record {
         settings = f .settings;
         next = omega arith;
         expected = f .expected;
@@ -104,16 +87,16 @@ queued-sound l packet s lo hi place =
       });
     }
   where
-    lengths : (n : ℕ) → n < l .waiting + 1 → Length (queued l packet) n
+    lengths : (n : ℕ) → n < l .waiting + 1 → Length (added l packet) n
     lengths zero h = newest-length l packet s lo hi
     lengths (suc n) h = older-length l packet n s place (omega arith)
+
+pub sentFirst-sound : (l : Link) (ms slots frame packet : ℕ) → Sound l → Accepting l slots frame packet → Sound (sentFirst l ms packet)
+sentFirst-sound l ms slots frame packet s a =
+    added-sound (dataSent l (l .next) ms 0) packet (dataSent-sound l (l .next) ms 0 s (omega arith)) (a .least) (a .most) (a .place)
 
 pub submitted-sound : (l : Link) (slots frame : List ℕ) (ms : ℕ) (packet : List ℕ) → Sound l → Sound (submitted l slots frame ms packet .told .state)
 unfolding submitted
 submitted-sound l slots frame ms packet s =
-    gated-sound (submitGate l (length slots) (length frame) (length packet)) l slots frame (packetAccepted l slots frame ms packet) s first
-  where
-    first : submitGate l (length slots) (length frame) (length packet) ≡ done → Sound (sentFirst l ms (length packet))
-    first e =
-        let a : Accepting l (length slots) (length frame) (length packet) = submitGate-facts l (length slots) (length frame) (length packet) e in
-        queued-sound (dataSent l (l .next) ms 0) (length packet) (dataSent-sound l (l .next) ms 0 s (omega arith)) (a .least) (a .most) (a .place)
+    gated-sound (submitGate l (length slots) (length frame) (length packet)) l slots frame (packetAccepted l slots frame ms packet) s
+    (λ e. sentFirst-sound l ms (length slots) (length frame) (length packet) s (submitGate-facts l (length slots) (length frame) (length packet) e))

@@ -27,13 +27,13 @@ unfolding gateOf
 submitGate l slots frame packet = firstOf (gateOf l slots frame) (packetGate l packet)
 
 -- one more packet waits, of this length, under the next number
-abbrev pub queued : Link → ℕ → Link
-queued l packet =
+abbrev pub added : Link → ℕ → Link
+added l packet =
     withWaiting (withNext (withLengths l (set (l .lengths) (slotOf l (l .next)) packet)) ((l .next + 1) % 4)) (l .waiting + 1)
 
 -- "It sends the frame, starts that packet's timer, and sets its repeat count to 0."
 abbrev pub sentFirst : Link → ℕ → ℕ → Link
-sentFirst l ms packet = queued (dataSent l (l .next) ms 0) packet
+sentFirst l ms packet = added (dataSent l (l .next) ms 0) packet
 
 -- "Submit copies the packet to the slot numbered (frame number modulo WIN_SIZE), the slot's part of the lent buffer beginning where the slot
 -- begins; every other byte stays." "Each data frame, also a repeated one, carries ACK for the last correct number at that moment"

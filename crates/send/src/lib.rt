@@ -12,7 +12,7 @@ ghost use Rattle.state.specs.Gate.{after};
 ghost use Rattle.state.specs.State.{lengthOf, countOf};
 ghost use Rattle.send.specs.Repeat.{partOf, dataSent, mayRepeat, Ready};
 ghost use Rattle.send.specs.Makers.{sending, sendsRepeat, quiet, sendsAck, marked, sendsNak};
-ghost use Rattle.send.specs.Submit.{submitGate, queued, packetAccepted, submitted};
+ghost use Rattle.send.specs.Submit.{submitGate, added, packetAccepted, submitted};
 
 // A state, and the length of the frame that was sent with it, 0 for none.
 pub struct Sent {
@@ -149,9 +149,9 @@ fn submit_gate(l: Link, slots: usize, frame: usize, packet: usize) -> u8
     refusal
 }
 
-fn queue(l: Link, packet: u16) -> Link
+fn add(l: Link, packet: u16) -> Link
     requires { ⌜ (1 ≤ l .settings .window) × (l .settings .window ≤ 2) × (l .next ≤ 3) × (l .waiting < 2) ⌝ }
-    ensures { λ r. ⌜ r ≡ queued l packet ⌝ }
+    ensures { λ r. ⌜ r ≡ added l packet ⌝ }
 {
     let slot = state::slot_of(l, l.next);
     let mut k = l;
@@ -175,7 +175,7 @@ fn accept(l: Link, slots: &mut [u8], frame: &mut [u8], ms: u32, packet: &[u8]) -
 {
     store(l, slots, packet);
     let sent = frame::write_data(frame, l.next, state::last_correct(l), packet);
-    let state = queue(data_sent(l, l.next, ms, 0), packet.len() as u16);
+    let state = add(data_sent(l, l.next, ms, 0), packet.len() as u16);
     end(Sent { state, sent }, answer::DONE, 0)
 }
 

@@ -2,16 +2,14 @@
 -- Assumes nothing.
 use mathlib.Core.Path.{sym, _∙_}
 use borrow.Author.Tests.{ne-eqb, eq-eqb}
-use Rattle.state.proofs.Facts.{gateOf-facts}
+use Rattle.state.proofs.Facts.{gateOf-facts, control-fits}
 use Rattle.clock.specs.Look.{acknowledgedNow}
-use native.Mathlib.Omega.{arith}
 use borrow.Author.Needs.{needs}
 use Rattle.clock.proofs.acknowledge.Statement.{statement}
 use Rattle.clock.proofs.acknowledge.Tie as tie
 
 acknowledge-if-requires : tie.Need-acknowledge-if-requires
-acknowledge-if-requires c κs = let o = gateOf-facts _ _ _ (sym (c .before .before .gate .ensures) ∙ c .before .if1 .taken) in
-    omega (arith, o .entered .frame-room, o .entered .formed .settings)
+acknowledge-if-requires c κs = control-fits _ _ _ (gateOf-facts _ _ _ (sym (c .before .before .gate .ensures) ∙ c .before .if1 .taken) .entered)
 
 returns : tie.Need-returns
 unfolding acknowledgedNow

@@ -1,7 +1,7 @@
 -- `clock::look_open` meets its contract.
 -- Assumes nothing.
 use mathlib.Core.Path.{sym, _∙_}
-use Rattle.state.proofs.Facts.{gateOf-facts}
+use Rattle.state.proofs.Facts.{gateOf-facts, control-fits}
 use Rattle.clock.specs.Look.{lookedAt}
 use Rattle.clock.proofs.Facts.{due-ready}
 use native.Mathlib.Omega.{arith}
@@ -39,7 +39,7 @@ unfolding lookedAt
 returns-2 c = rw (← c .before .before .before .before .before .before .before .before .before .after-oldest .ensures, ← c .before .before .before .before .before .before .before .before .is-packet-due .ensures, c .before .before .before .before .before .before .before .if1 .left, ← c .before .before .before .before .before .before .is-packet-due2 .ensures, c .before .before .before .before .before .if2 .taken, ← c .before .before .before .sent-before2 .ensures .0) (c .before .before .serve2 .ensures)
 
 acknowledge-if-requires : tie.Need-acknowledge-if-requires
-acknowledge-if-requires c κs = let o = gateOf-facts _ _ _ (c .before .before .before .before .before .before .before .before .before .pre) in omega (arith, o .entered .frame-room, o .entered .formed .settings)
+acknowledge-if-requires c κs = control-fits _ _ _ (gateOf-facts _ _ _ (c .before .before .before .before .before .before .before .before .before .pre) .entered)
 
 returns-3 : tie.Need-returns-3
 unfolding lookedAt

@@ -3,23 +3,23 @@
 use mathlib.Core.Path.{subst}
 use Prim.Native.Nat.{_≤_}
 use Rattle.frame.specs.Steps.{acknowledgedIn}
+use Rattle.state.proofs.Facts.{gateOf-facts, control-fits}
 use Rattle.receive.specs.Take.{obeyed}
-use Rattle.receive.proofs.Facts.{frame-room}
 use borrow.Author.Needs.{needs}
 use Rattle.receive.proofs.obey.Statement.{statement}
 use Rattle.receive.proofs.obey.Tie as tie
 
 refuse-requires : tie.Need-refuse-requires
-refuse-requires c κs = frame-room _ _ _ (c .before .before .before .before .before .pre .0)
+refuse-requires c κs = control-fits _ _ _ (gateOf-facts _ _ _ (c .before .before .before .before .before .pre .0) .entered)
 
 refuse-requires-2 : tie.Need-refuse-requires-2
-refuse-requires-2 c κs = frame-room _ _ _ (c .before .before .before .before .before .pre .0)
+refuse-requires-2 c κs = control-fits _ _ _ (gateOf-facts _ _ _ (c .before .before .before .before .before .pre .0) .entered)
 
 refuse-requires-3 : tie.Need-refuse-requires-3
-refuse-requires-3 c κs = frame-room _ _ _ (c .before .before .before .before .before .pre .0)
+refuse-requires-3 c κs = control-fits _ _ _ (gateOf-facts _ _ _ (c .before .before .before .before .before .pre .0) .entered)
 
 refuse-requires-4 : tie.Need-refuse-requires-4
-refuse-requires-4 c κs = frame-room _ _ _ (c .before .before .before .before .before .pre .0)
+refuse-requires-4 c κs = control-fits _ _ _ (gateOf-facts _ _ _ (c .before .before .before .before .before .pre .0) .entered)
 
 free-requires : tie.Need-free-requires
 free-requires c κs = subst (λ x. acknowledgedIn x ≤ 3) (c .before .h .given .1) (c .before .before .before .before .before .pre .1)

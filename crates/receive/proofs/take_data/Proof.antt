@@ -1,6 +1,6 @@
 -- `receive::take_data` meets its contract.
 -- Assumes nothing.
-use Rattle.state.proofs.Facts.{gateOf-facts}
+use Rattle.state.proofs.Facts.{gateOf-facts, control-fits}
 use Rattle.send.proofs.Facts.{ended}
 use Rattle.receive.proofs.Facts.{nak-ready, afterStep6-expected, delivered-data, unexpected-data}
 use native.Mathlib.Omega.{arith}
@@ -22,7 +22,7 @@ returns c = delivered-data _ _ _ _ _ _ _ _ _ _ _ _ (c .before .before .before .b
 
 repeat-or-ack-requires : tie.Need-repeat-or-ack-requires
 repeat-or-ack-requires c κs = let o = gateOf-facts _ _ _ (c .before .before .before .before .before .before .before .pre .0) in
-    rw (c .before .before .before .obey-acknowledgement .ensures, c .before .before .before .before .is-repeatable .ensures) (nak-ready _ (c .before .before .before .before .before .before .before .args .nak) _ _ _ o (c .before .before .before .before .before .before .before .pre .1), omega (arith, o .entered .frame-room, o .entered .formed .settings))
+    rw (c .before .before .before .obey-acknowledgement .ensures, c .before .before .before .before .is-repeatable .ensures) (nak-ready _ (c .before .before .before .before .before .before .before .args .nak) _ _ _ o (c .before .before .before .before .before .before .before .pre .1), control-fits _ _ _ (o .entered))
 
 returns-2 : tie.Need-returns-2
 returns-2 c = unexpected-data _ _ _ _ _ _ _ _ _ _ _ (c .before .before .before .before .before .if1 .left) (c .before .before .before .before .before .before .before .before .is-repeatable .ensures) (c .before .before .before .before .before .before .before .obey-acknowledgement .ensures) (ended _ _ _ _ _ _ _ (c .end2 .ensures) (c .before .before .before .repeat-or-ack .ensures))

@@ -18,11 +18,11 @@ write-data-requires c κs = let a = submitGate-facts _ _ _ _ (c .before .before 
 data-sent-requires : tie.Need-data-sent-requires
 data-sent-requires c κs = omega (arith, submitGate-facts _ _ _ _ (c .before .before .before .before .before .before .before .before .before .before .before .before .pre) .gate .entered .formed .settings)
 
-cast-queue : tie.Need-cast-queue
-cast-queue c = let a = submitGate-facts _ _ _ _ (c .before .before .before .before .before .before .before .before .before .before .before .before .before .pre) in omega (arith, a .most, a .gate .entered .formed .settings)
+cast-add : tie.Need-cast-add
+cast-add c = let a = submitGate-facts _ _ _ _ (c .before .before .before .before .before .before .before .before .before .before .before .before .before .pre) in omega (arith, a .most, a .gate .entered .formed .settings)
 
-queue-requires : tie.Need-queue-requires
-queue-requires c κs = let a = submitGate-facts _ _ _ _ (c .before .before .before .before .before .before .before .before .before .before .before .before .before .pre) in
+add-requires : tie.Need-add-requires
+add-requires c κs = let a = submitGate-facts _ _ _ _ (c .before .before .before .before .before .before .before .before .before .before .before .before .before .pre) in
     rw (c .data-sent .ensures) (omega (arith, a .place, a .gate .entered .formed .next, a .gate .entered .formed .settings))
 
 same-length : tie.Need-same-length
@@ -30,7 +30,7 @@ same-length c = let a = submitGate-facts _ _ _ _ (c .before .before .before .bef
     rw (c .before .before .before .before .before .before .before .before .before .before .store .ensures) (put-length _ _ _ (part-fits _ _ _ _ _ (a .gate) (a .most)))
 
 returns : tie.Need-returns
-returns c = rw (c .end .ensures, c .before .queue .ensures, c .before .before .data-sent .ensures, c .before .before .before .before .before .write-data .ensures .told, c .before .before .before .before .before .write-data .ensures .bytes, c .before .before .before .before .before .before .last-correct .ensures .0, c .before .before .before .before .before .before .before .before .before .before .store .ensures)
+returns c = rw (c .end .ensures, c .before .add .ensures, c .before .before .data-sent .ensures, c .before .before .before .before .before .write-data .ensures .told, c .before .before .before .before .before .write-data .ensures .bytes, c .before .before .before .before .before .before .last-correct .ensures .0, c .before .before .before .before .before .before .before .before .before .before .store .ensures)
 
 pub accept-spec : {M : Type 1} → statement M
-accept-spec = tie.close (tie.spec store-requires (λ c κs. search needs) write-data-requires data-sent-requires cast-queue queue-requires (λ c κs. search needs) same-length (λ c. search needs) returns)
+accept-spec = tie.close (tie.spec store-requires (λ c κs. search needs) write-data-requires data-sent-requires cast-add add-requires (λ c κs. search needs) same-length (λ c. search needs) returns)
