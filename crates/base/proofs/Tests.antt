@@ -1,9 +1,9 @@
 -- What a test that came out true or false says. Assumes nothing.
 use mathlib.Core.Path.{_≡_, refl, sym, _∙_}
 use mathlib.Core.Bool.{Bool, true, false, cond, _&&_, _||_}
-use Prim.Native.Nat.{ℕ, _≤_}
+use Prim.Native.Nat.{ℕ, _<_, _≤_}
 use native.Mathlib.Omega.{arith}
-use borrow.Author.Tests.{leb-true, eqb-true, eq-eqb, ne-eqb}
+use borrow.Author.Tests.{leb-true, leb-false, eqb-true, le-leb, lt-leb, eq-eqb, ne-eqb}
 use lib.Dec.{leb, eqb}
 use Rattle.base.specs.Range.{within}
 use Rattle.base.specs.Answer.{done, firstOf}
@@ -58,6 +58,14 @@ within-low low x high e = leb-true low x (and-left (leb low x) (leb x high) e)
 
 pub within-high : (low x high : ℕ) → within low x high ≡ true → x ≤ high
 within-high low x high e = leb-true x high (and-right (leb low x) (leb x high) e)
+
+-- two comparisons that hold and fail together
+pub leb-same : (a b c d : ℕ) → (a ≤ b → c ≤ d) → (b < a → d < c) → leb a b ≡ leb c d
+leb-same a b c d holds fails = go (leb a b) refl
+  where
+    go : (t : Bool) → leb a b ≡ t → leb a b ≡ leb c d
+    go true e = e ∙ sym (le-leb c d (holds (leb-true a b e)))
+    go false e = e ∙ sym (lt-leb c d (fails (leb-false a b e)))
 
 -- a test that gives a number other than 0 where it fails, and gave 0
 pub passed : (t : Bool) (n : ℕ) → 1 ≤ n → cond t done n ≡ done → t ≡ true

@@ -1,6 +1,6 @@
 -- What the gates of joining say where they are open; the calls alone. Assumes nothing.
-use mathlib.Core.Path.{_≡_, refl, sym, ap, _∙_}
-use mathlib.Core.Bool.{Bool, true, false, cond, _&&_}
+use mathlib.Core.Path.{_≡_, sym, ap, _∙_}
+use mathlib.Core.Bool.{Bool, true, cond, _&&_}
 use mathlib.Core.List.{List}
 use Prim.Native.Nat.{ℕ, _≤_}
 use native.Mathlib.Omega.{arith}
@@ -8,12 +8,12 @@ use borrow.Author.Tests.{ltb-false, eqb-true}
 use lib.ListN.{length, getD}
 use lib.Dec.{ltb, leb, eqb}
 use Rattle.base.specs.Range.{within}
-use Rattle.base.specs.Answer.{done, outOfRange, shortBuffer, packetSize, otherChannel, chainFault, faultTold, securedPacket, tooLong, firstOf}
-use Rattle.base.proofs.Tests.{and-left, within-low, within-high, passed, spared, firstOf-left, firstOf-right}
+use Rattle.base.specs.Answer.{done, outOfRange, shortBuffer, packetSize, otherChannel, chainFault, faultTold, securedPacket, tooLong}
+use Rattle.base.proofs.Tests.{and-left, cond-cases, within-low, within-high, passed, spared, firstOf-four}
 use Rattle.chain.specs.declared.Joining.{Joining}
 use Rattle.chain.specs.Pctr.{channelOf, securedOf, chainOf, fault}
 use Rattle.chain.specs.Cut.{limitOk, longest, Cutting}
-use Rattle.chain.specs.Join.{freshJoining, Joins, joins, dropsChain, refusal, joinGate, begins, finishes, faulty, joinedTo, chainGate, partTold, partJoined, joinedPart, joined}
+use Rattle.chain.specs.Join.{freshJoining, Joins, joins, dropsChain, refusal, joinGate, begins, finishes, faulty, joinedTo, chainGate, partTold, partAdded, joinedPart, joined}
 use Rattle.chain.specs.Promises.{CutSettled, JoinSettled, JoinKept}
 
 pub record Joinable (packet bytes : ℕ) : Type 0 where
@@ -29,15 +29,13 @@ joinGate-facts m j packet room e =
     let two : ℕ = cond (ltb room longest) shortBuffer done in
     let three : ℕ = cond (within 1 (length packet) m) done packetSize in
     let four : ℕ = cond (eqb (channelOf (getD packet 0 0)) 0) done otherChannel in
-    let e2 : firstOf two (firstOf three four) ≡ done = firstOf-right one (firstOf two (firstOf three four)) e in
-    let e3 : firstOf three four ≡ done = firstOf-right two (firstOf three four) e2 in
-    let m-ok : limitOk m ≡ true =
-    and-left (limitOk m) (leb (j .joined) longest) (passed ok outOfRange (omega arith) (firstOf-left one (firstOf two (firstOf three four)) e)) in
-    let size : within 1 (length packet) m ≡ true = passed (within 1 (length packet) m) packetSize (omega arith) (firstOf-left three four e3) in
+    let f : (one ≡ done) × (two ≡ done) × (three ≡ done) × (four ≡ done) = firstOf-four one two three four e in
+    let m-ok : limitOk m ≡ true = and-left (limitOk m) (leb (j .joined) longest) (passed ok outOfRange (omega arith) (f .0)) in
+    let size : within 1 (length packet) m ≡ true = passed (within 1 (length packet) m) packetSize (omega arith) (f .2) in
     record {
       least = within-low 1 (length packet) m size;
       most = omega (arith, within-high 1 (length packet) m size, within-high 11 m 1019 m-ok);
-      room = ltb-false room longest (spared (ltb room longest) shortBuffer (omega arith) (firstOf-left two (firstOf three four) e2));
+      room = ltb-false room longest (spared (ltb room longest) shortBuffer (omega arith) (f .1));
     }
 
 pub chainGate-fits : (m : ℕ) (j : Joining) (pctr size : ℕ) → chainGate m j pctr size ≡ done → joinedTo j (chainOf pctr) size ≤ longest
@@ -48,9 +46,7 @@ chainGate-fits m j pctr size e =
     let three : ℕ = cond (securedOf pctr && begins (chainOf pctr)) securedPacket done in
     let long : Bool = ltb longest (joinedTo j (chainOf pctr) size) in
     let four : ℕ = cond long tooLong done in
-    let e2 : firstOf two (firstOf three four) ≡ done = firstOf-right one (firstOf two (firstOf three four)) e in
-    let e3 : firstOf three four ≡ done = firstOf-right two (firstOf three four) e2 in
-    ltb-false longest (joinedTo j (chainOf pctr) size) (spared long tooLong (omega arith) (firstOf-right three four e3))
+    ltb-false longest (joinedTo j (chainOf pctr) size) (spared long tooLong (omega arith) (firstOf-four one two three four e .3))
 
 -- ---- the calls alone
 
@@ -65,38 +61,23 @@ join-settled m j packet room told other written otherWritten p q =
     (ap (λ (j : Joins). j .told) e, ap (λ (j : Joins). j .room) e)
 
 refusal-kept : (j : Joining) (answer : ℕ) → j .joined ≤ longest → refusal j answer .state .joined ≤ longest
-refusal-kept j answer h = go (dropsChain answer)
-  where
-    go : (t : Bool) → cond t freshJoining j .joined ≤ longest
-    go true = omega arith
-    go false = h
+refusal-kept j answer h = cond-cases (λ (k : Joining). k .joined ≤ longest) (dropsChain answer) freshJoining j (λ e. omega arith) (λ e. h)
 
 part-kept : (j : Joining) (chain size : ℕ) → joinedTo j chain size ≤ longest → partTold j chain size .state .joined ≤ longest
-part-kept j chain size h = go (finishes chain)
-  where
-    go : (t : Bool) → cond t freshJoining (record { joined = joinedTo j chain size; opened = true }) .joined ≤ longest
-    go true = omega arith
-    go false = h
+part-kept j chain size h =
+    cond-cases (λ (k : Joining). k .joined ≤ longest) (finishes chain) freshJoining (record { joined = joinedTo j chain size; opened = true }) (λ e. omega arith) (λ e. h)
 
 joinedPart-kept : (m : ℕ) (j : Joining) (packet room : List ℕ) → j .joined ≤ longest → joinedPart m j packet room .told .state .joined ≤ longest
 unfolding joinedPart
-joinedPart-kept m j packet room h = go (eqb answer done) refl
-  where
-    answer : ℕ
-    answer = chainGate m j (getD packet 0 0) (length packet)
-
-    go : (t : Bool) → eqb answer done ≡ t
-        → cond t (partJoined j packet (chainOf (getD packet 0 0)) room) (joins (refusal j answer) room) .told .state .joined ≤ longest
-    go true e = part-kept j (chainOf (getD packet 0 0)) (length packet) (chainGate-fits m j (getD packet 0 0) (length packet) (eqb-true answer done e))
-    go false e = refusal-kept j answer h
+joinedPart-kept m j packet room h =
+    let pctr : ℕ = getD packet 0 0 in
+    let answer : ℕ = chainGate m j pctr (length packet) in
+    cond-cases (λ (a : Joins). a .told .state .joined ≤ longest) (eqb answer done) (partAdded j packet (chainOf pctr) room) (joins (refusal j answer) room)
+    (λ e. part-kept j (chainOf pctr) (length packet) (chainGate-fits m j pctr (length packet) (eqb-true answer done e))) (λ e. refusal-kept j answer h)
 
 pub join-kept : JoinKept
 unfolding joined
-join-kept m j packet room h = go (eqb answer done)
-  where
-    answer : ℕ
-    answer = joinGate m j packet (length room)
-
-    go : (t : Bool) → cond t (joinedPart m j packet room) (joins (refusal j answer) room) .told .state .joined ≤ longest
-    go true = joinedPart-kept m j packet room h
-    go false = refusal-kept j answer h
+join-kept m j packet room h =
+    let answer : ℕ = joinGate m j packet (length room) in
+    cond-cases (λ (a : Joins). a .told .state .joined ≤ longest) (eqb answer done) (joinedPart m j packet room) (joins (refusal j answer) room)
+    (λ e. joinedPart-kept m j packet room h) (λ e. refusal-kept j answer h)

@@ -1,6 +1,6 @@
 -- The parts of a message: how many, where they begin, how long they are. Assumes nothing.
 use mathlib.Core.Path.{_≡_, refl, sym, ap, _∙_}
-use mathlib.Core.Bool.{Bool, true, false, cond}
+use mathlib.Core.Bool.{true, cond}
 use mathlib.Core.List.{List, [], _∷_}
 use Prim.Native.Nat.{ℕ, suc, _+_, _-_, _*_, _<_, _≤_}
 use native.Mathlib.Nat.{div-mul-le-self, div-le-self, lt-div-mul-add, mul-le-mul-right, suc-mul}
@@ -12,16 +12,16 @@ use lib.Dec.{ltb}
 use Rattle.base.specs.Range.{within}
 use Rattle.base.specs.Buffer.{put}
 use Rattle.base.proofs.Put.{put-length, put-put, put-sets}
-use Rattle.base.specs.Answer.{done, outOfRange, shortBuffer, messageSize, noSuchPacket, firstOf}
-use Rattle.base.proofs.Tests.{within-low, within-high, passed, spared, firstOf-left, firstOf-right}
+use Rattle.base.specs.Answer.{done, outOfRange, shortBuffer, messageSize, noSuchPacket}
+use Rattle.base.proofs.Tests.{cond-cases, within-low, within-high, passed, spared, firstOf-four}
 use Rattle.chain.specs.Cut.{limitOk, longest, leastOf, partSize, packetCount, chainAt, packetAt, cutGate, cutting, given}
 use Rattle.chain.specs.Pctr.{pctrOf}
 
 -- ---- how many
 
 -- every part that is counted begins inside the message ..
-pub part-inside : (m message i : ℕ) → 11 ≤ m → i < packetCount m message → i * partSize m < message
-part-inside m message i h c =
+pub part-begins : (m message i : ℕ) → 11 ≤ m → i < packetCount m message → i * partSize m < message
+part-begins m message i h c =
     let p : ℕ = partSize m in
     omega (arith, mul-le-mul-right p c, suc-mul i p, div-mul-le-self (message + (p - 1)) p)
 
@@ -38,18 +38,14 @@ count-small m message h k l = omega (arith, div-le-self (message + (partSize m -
 -- ---- how long
 
 pub take-least : (p : ℕ) (xs : List ℕ) → take (leastOf p (length xs)) xs ≡ take p xs
-take-least p xs = go (ltb p (length xs)) refl
-  where
-    go : (t : Bool) → ltb p (length xs) ≡ t → take (cond t p (length xs)) xs ≡ take p xs
-    go true e = refl
-    go false e = take-length xs ∙ sym (take-all p xs (ltb-false p (length xs) e))
+take-least p xs =
+    cond-cases (λ n. take n xs ≡ take p xs) (ltb p (length xs)) p (length xs)
+    (λ e. refl) (λ e. take-length xs ∙ sym (take-all p xs (ltb-false p (length xs) e)))
 
 pub length-take-least : (p : ℕ) (xs : List ℕ) → length (take p xs) ≡ leastOf p (length xs)
-length-take-least p xs = go (ltb p (length xs)) refl
-  where
-    go : (t : Bool) → ltb p (length xs) ≡ t → length (take p xs) ≡ cond t p (length xs)
-    go true e = simp length-take (omega (arith, ltb-true p (length xs) e))
-    go false e = simp length-take (omega (arith, ltb-false p (length xs) e))
+length-take-least p xs =
+    cond-cases (λ n. length (take p xs) ≡ n) (ltb p (length xs)) p (length xs)
+    (λ e. simp length-take (omega (arith, ltb-true p (length xs) e))) (λ e. simp length-take (omega (arith, ltb-false p (length xs) e)))
 
 -- the last step of cut: what was computed on the way is the packet's
 pub given-is : (m i : ℕ) (message buffer after : List ℕ) (count size pctr : ℕ) → count ≡ packetCount m (length message)
@@ -86,18 +82,16 @@ cutGate-facts m buffer message i e =
     let two : ℕ = cond (ltb buffer m) shortBuffer done in
     let three : ℕ = cond (within 1 message longest) done messageSize in
     let four : ℕ = cond (ltb i (packetCount m message)) done noSuchPacket in
-    let e1 : one ≡ done = firstOf-left one (firstOf two (firstOf three four)) e in
-    let e2 : firstOf two (firstOf three four) ≡ done = firstOf-right one (firstOf two (firstOf three four)) e in
-    let e3 : firstOf three four ≡ done = firstOf-right two (firstOf three four) e2 in
-    let m-ok : limitOk m ≡ true = passed (limitOk m) outOfRange (omega arith) e1 in
-    let size : within 1 message longest ≡ true = passed (within 1 message longest) messageSize (omega arith) (firstOf-left three four e3) in
+    let f : (one ≡ done) × (two ≡ done) × (three ≡ done) × (four ≡ done) = firstOf-four one two three four e in
+    let m-ok : limitOk m ≡ true = passed (limitOk m) outOfRange (omega arith) (f .0) in
+    let size : within 1 message longest ≡ true = passed (within 1 message longest) messageSize (omega arith) (f .2) in
     record {
       m-lo = within-low 11 m 1019 m-ok;
       m-hi = within-high 11 m 1019 m-ok;
-      room = ltb-false buffer m (spared (ltb buffer m) shortBuffer (omega arith) (firstOf-left two (firstOf three four) e2));
+      room = ltb-false buffer m (spared (ltb buffer m) shortBuffer (omega arith) (f .1));
       least = within-low 1 message longest size;
       most = within-high 1 message longest size;
-      below = ltb-true i (packetCount m message) (passed (ltb i (packetCount m message)) noSuchPacket (omega arith) (firstOf-right three four e3));
+      below = ltb-true i (packetCount m message) (passed (ltb i (packetCount m message)) noSuchPacket (omega arith) (f .3));
     }
 
 -- ---- bytes

@@ -1,24 +1,23 @@
 -- Cutting gives the packets of a message, and joining them gives the message. Assumes nothing.
 use mathlib.Core.Path.{_≡_, refl, sym, ap, subst, _∙_}
-use mathlib.Core.Bool.{Bool, true, false, cond}
+use mathlib.Core.Bool.{true, false, cond}
 use mathlib.Core.List.{List, [], _∷_, _++_, append-assoc, append-nil}
 use Prim.Native.Nat.{ℕ, zero, suc, _+_, _-_, _*_, _/_, _%_, _<_, _≤_}
 use native.Mathlib.Nat.{suc-mul, zero-mul}
 use native.Mathlib.Omega.{arith}
-use borrow.Author.Tests.{leb-true, leb-false, le-leb, lt-leb, le-ltb, lt-ltb, eq-eqb, ne-eqb}
-use lib.Dec.{leb}
+use borrow.Author.Tests.{le-leb, le-ltb, lt-ltb, eq-eqb, ne-eqb}
 use lib.ListN.{length, take, drop, length-drop, length-take}
 use lib.Seq.{take-add, take-all}
 use Rattle.base.specs.Answer.{done}
 use Rattle.base.specs.Buffer.{put}
 use Rattle.base.proofs.Put.{put-length, put-take}
-use Rattle.base.proofs.Tests.{within-low}
+use Rattle.base.proofs.Tests.{within-low, leb-same}
 use Rattle.chain.specs.declared.Joining.{Joining}
 use Rattle.chain.specs.Pctr.{pctrOf, whole, first, middle, last}
 use Rattle.chain.specs.Cut.{limitOk, longest, partSize, packetCount, chainAt, partAt, packetAt, packetsTo, cutGate, given, cutOut}
-use Rattle.chain.specs.Join.{freshJoining, joinGate, finishes, faulty, placeOf, joinedTo, chainGate, partJoined, joinedPart, joined}
+use Rattle.chain.specs.Join.{freshJoining, joinGate, finishes, faulty, placeOf, joinedTo, chainGate, partAdded, joinedPart, joined}
 use Rattle.chain.specs.Promises.{cutsTo, CutsAll, LimitsAgree, Sized, none, more, PacketsSized, Reader, messageIn, readOne, readAll, Idle, dones, Rejoined, RejoinsAll, NoneBefore}
-use Rattle.chain.proofs.Parts.{part-inside, parts-all}
+use Rattle.chain.proofs.Parts.{part-begins, parts-all}
 
 -- ---- cutting
 
@@ -55,27 +54,13 @@ cuts-all m message buffer e b lo hi = cuts-first m (packetCount m (length messag
 
 -- ---- sizes
 
-limits-low : (d : ℕ) → leb 16 d ≡ leb 11 (d - 5)
-limits-low d = go (leb 16 d) refl
-  where
-    go : (t : Bool) → leb 16 d ≡ t → leb 16 d ≡ leb 11 (d - 5)
-    go true e = e ∙ sym (le-leb 11 (d - 5) (omega (arith, leb-true 16 d e)))
-    go false e = e ∙ sym (lt-leb 11 (d - 5) (omega (arith, leb-false 16 d e)))
-
-limits-high : (d : ℕ) → leb d 1024 ≡ leb (d - 5) 1019
-limits-high d = go (leb d 1024) refl
-  where
-    go : (t : Bool) → leb d 1024 ≡ t → leb d 1024 ≡ leb (d - 5) 1019
-    go true e = e ∙ sym (le-leb (d - 5) 1019 (omega (arith, leb-true d 1024 e)))
-    go false e = e ∙ sym (lt-leb (d - 5) 1019 (omega (arith, leb-false d 1024 e)))
-
 pub limits-agree : LimitsAgree
-limits-agree d = rw (limits-low d, limits-high d)
+limits-agree d = rw (leb-same 16 d 11 (d - 5) (λ h. omega arith) (λ h. omega arith), leb-same d 1024 (d - 5) 1019 (λ h. omega arith) (λ h. omega arith))
 
 -- a packet that is counted has a byte of the message
 packet-some : (m i : ℕ) (message : List ℕ) → 11 ≤ m → i < packetCount m (length message) → 2 ≤ length (packetAt m message i)
 packet-some m i message h c =
-    let inside : i * partSize m < length message = part-inside m (length message) i h c in
+    let inside : i * partSize m < length message = part-begins m (length message) i h c in
     simp (length-take, length-drop) (omega (arith, inside))
 
 sized-end : (m : ℕ) (packets : List (List ℕ)) (packet : List ℕ) → Sized m packets → 2 ≤ length packet → length packet ≤ m → Sized m (packets ++ (packet ∷ []))
@@ -96,7 +81,7 @@ packets-sized m message e = sized-first m (packetCount m (length message)) messa
 joined-open : (m : ℕ) (j : Joining) (chain : ℕ) (part room : List ℕ) → limitOk m ≡ true → j .joined ≤ longest → longest ≤ length room
     → 1 ≤ length part → length part + 1 ≤ m → chain ≤ 4 → faulty m (j .opened) chain (suc (length part)) ≡ false
     → joinedTo j chain (suc (length part)) ≤ longest
-    → joined m j (pctrOf 0 chain ∷ part) room ≡ partJoined j (pctrOf 0 chain ∷ part) chain room
+    → joined m j (pctrOf 0 chain ∷ part) room ≡ partAdded j (pctrOf 0 chain ∷ part) chain room
 unfolding joined joinGate joinedPart chainGate
 joined-open m j chain part room e small enough lo hi c ok total =
     let channel : (0 * 16 + chain) / 16 ≡ 0 = omega arith in
@@ -143,7 +128,7 @@ read-one m k chain message s part e small enough lo hi c ok place total =
     let at : ℕ = k * partSize m in
     let size : suc (length part) - 1 ≡ length part = omega arith in
     let to : joinedTo (s .state) chain (suc (length part)) ≡ at + length part = rw (place, size) in
-    let j : joined m (s .state) (pctrOf 0 chain ∷ part) (s .room) ≡ partJoined (s .state) (pctrOf 0 chain ∷ part) chain (s .room) =
+    let j : joined m (s .state) (pctrOf 0 chain ∷ part) (s .room) ≡ partAdded (s .state) (pctrOf 0 chain ∷ part) chain (s .room) =
     joined-open m (s .state) chain part (s .room) e small enough lo hi c ok (rw to total) in
     rw (j, to, place)
 
@@ -170,13 +155,13 @@ chain-last m size h = rw (ne-eqb size 1 (λ q. omega arith))
 -- a part that is not the last is full
 full-part : (m k : ℕ) (message : List ℕ) → 11 ≤ m → suc k < packetCount m (length message) → length (partAt m message k) ≡ partSize m
 full-part m k message h c =
-    let next : suc k * partSize m < length message = part-inside m (length message) (suc k) h c in
+    let next : suc k * partSize m < length message = part-begins m (length message) (suc k) h c in
     simp (length-take, length-drop) (omega (arith, suc-mul k (partSize m)))
 
 -- the last is what is left, and there is some
 last-part : (m k : ℕ) (message : List ℕ) → 11 ≤ m → suc k ≡ packetCount m (length message) → length (partAt m message k) + k * partSize m ≡ length message
 last-part m k message h c =
-    let here : k * partSize m < length message = part-inside m (length message) k h (omega arith) in
+    let here : k * partSize m < length message = part-begins m (length message) k h (omega arith) in
     let all : length message ≤ suc k * partSize m = rw c (parts-all m (length message) h) in
     simp (length-take, length-drop) (omega (arith, suc-mul k (partSize m)))
 
@@ -198,7 +183,7 @@ read-on m k chain message r s e hi idle ih c small c4 f ok place =
     let part : List ℕ = partAt m message k in
     let m-lo : 11 ≤ m = within-low 11 m 1019 e in
     let len : length part ≡ p = full-part m k message m-lo c in
-    let next : suc k * p < length message = part-inside m (length message) (suc k) m-lo c in
+    let next : suc k * p < length message = part-begins m (length message) (suc k) m-lo c in
     let to : k * p + length part ≡ suc k * p = omega (arith, suc-mul k p) in
     let to2 : k * p + p ≡ suc k * p = omega (arith, suc-mul k p) in
     let size : suc (length part) ≡ m = omega arith in
@@ -226,7 +211,7 @@ reading m (suc (suc k)) message r e lo hi idle c =
     let count : ℕ = packetCount m (length message) in
     let s : Reader = readAll m r (packetsTo m message (suc k)) in
     let ih : Reading m message (suc k) r s = reading m (suc k) message r e lo hi idle (omega arith) in
-    let inside : suc k * partSize m < length message = part-inside m (length message) (suc k) (within-low 11 m 1019 e) (omega arith) in
+    let inside : suc k * partSize m < length message = part-begins m (length message) (suc k) (within-low 11 m 1019 e) (omega arith) in
     let chain : chainAt (suc k) count ≡ middle = rw (ne-eqb count 1 (λ q. omega arith), ne-eqb (suc k) 0 (λ q. omega arith), ne-eqb (suc k + 1) count (λ q. omega arith)) in
     rw (readAll-end m r (packetsTo m message (suc k)) (packetAt m message (suc k)))
     (subst (λ x. Reading m message (suc (suc k)) r (readOne m s (pctrOf 0 x ∷ partAt m message (suc k)))) (sym chain)
@@ -246,7 +231,7 @@ read-last m k chain message r s e hi idle ih c small c4 f ok place =
     let p : ℕ = partSize m in
     let part : List ℕ = partAt m message k in
     let m-lo : 11 ≤ m = within-low 11 m 1019 e in
-    let here : k * p < length message = part-inside m (length message) k m-lo (omega arith) in
+    let here : k * p < length message = part-begins m (length message) k m-lo (omega arith) in
     let len : length part + k * p ≡ length message = last-part m k message m-lo c in
     let to : k * p + length part ≡ length message = omega arith in
     let short : length part ≤ p = simp length-take (omega arith) in
@@ -275,7 +260,7 @@ last-read m (suc k) message r e lo hi idle c =
     let count : ℕ = packetCount m (length message) in
     let s : Reader = readAll m r (packetsTo m message (suc k)) in
     let ih : Reading m message (suc k) r s = reading m (suc k) message r e lo hi idle (omega arith) in
-    let inside : suc k * partSize m < length message = part-inside m (length message) (suc k) (within-low 11 m 1019 e) (omega arith) in
+    let inside : suc k * partSize m < length message = part-begins m (length message) (suc k) (within-low 11 m 1019 e) (omega arith) in
     let chain : chainAt (suc k) count ≡ last = rw (ne-eqb count 1 (λ q. omega arith), ne-eqb (suc k) 0 (λ q. omega arith), eq-eqb (suc k + 1) count (omega arith)) in
     rw (readAll-end m r (packetsTo m message (suc k)) (packetAt m message (suc k)))
     (subst (λ x. Rejoined m message r (readOne m s (pctrOf 0 x ∷ partAt m message (suc k)))) (sym chain)

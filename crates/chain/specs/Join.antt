@@ -106,14 +106,14 @@ partTold j chain size = record {
   fault = 0;
 }
 
-abbrev pub partJoined : Joining → List ℕ → ℕ → List ℕ → Joins
-partJoined j packet chain room = joins (partTold j chain (length packet)) (put room (placeOf j chain) (drop 1 packet))
+abbrev pub partAdded : Joining → List ℕ → ℕ → List ℕ → Joins
+partAdded j packet chain room = joins (partTold j chain (length packet)) (put room (placeOf j chain) (drop 1 packet))
 
 unfoldable pub joinedPart : ℕ → Joining → List ℕ → List ℕ → Joins
 unfolding chainGate
 joinedPart m j packet room =
     let answer : ℕ = chainGate m j (getD packet 0 0) (length packet) in
-    cond (eqb answer done) (partJoined j packet (chainOf (getD packet 0 0)) room) (joins (refusal j answer) room)
+    cond (eqb answer done) (partAdded j packet (chainOf (getD packet 0 0)) room) (joins (refusal j answer) room)
 
 -- ---- the call
 

@@ -8,7 +8,7 @@ ghost use lib.ListN.{length};
 ghost use Rattle.base.specs.Buffer.{put};
 ghost use Rattle.chain.specs.Pctr.{pctrOf};
 ghost use Rattle.chain.specs.Cut.{limitOk, leastOf, packetCount, chainAt, cutGate, cutting, given, cutOut};
-ghost use Rattle.chain.specs.Join.{freshJoining, joins, dropsChain, faultOf, refusal, joinGate, faulty, placeOf, joinedTo, chainGate, partTold, partJoined, joinedPart, joined};
+ghost use Rattle.chain.specs.Join.{freshJoining, joins, dropsChain, faultOf, refusal, joinGate, faulty, placeOf, joinedTo, chainGate, partTold, partAdded, joinedPart, joined};
 
 // What cut tells of a packet.
 pub struct Piece {
@@ -121,7 +121,6 @@ fn lay(packet: &mut [u8], pctr: u8, part: &[u8])
     buffer::copy_at(packet, 1, part);
 }
 
-// Packet i of the message, at the start of the buffer.
 fn give(m: u16, message: &[u8], i: usize, packet: &mut [u8]) -> Piece
     requires { ⌜ ((11 ≤ m) × (m ≤ 1019)) × (length (now message) ≤ 4096) × (m ≤ length (now packet)) × (i < packetCount m (length (now message))) ⌝ }
     ensures { λ r. ⌜ cutting r (now (packet .exit)) ≡ given m (now (message .entry)) i (now (packet .entry)) ⌝ }
@@ -283,7 +282,7 @@ fn tell(j: Joining, chain: u8, size: usize) -> Joined
 
 fn add_part(j: Joining, packet: &[u8], chain: u8, room: &mut [u8]) -> Joined
     requires { ⌜ (1 ≤ length (now packet)) × (joinedTo j chain (length (now packet)) ≤ 4096) × (4096 ≤ length (now room)) ⌝ }
-    ensures { λ r. ⌜ joins r (now (room .exit)) ≡ partJoined j (now (packet .entry)) chain (now (room .entry)) ⌝ }
+    ensures { λ r. ⌜ joins r (now (room .exit)) ≡ partAdded j (now (packet .entry)) chain (now (room .entry)) ⌝ }
 {
     buffer::copy_at(room, place_of(j, chain), &packet[1..]);
     tell(j, chain, packet.len())

@@ -14,7 +14,7 @@ use Rattle.state.proofs.Keeps.{marked-sound, gated-sound}
 use Rattle.send.specs.Repeat.{mayRepeat}
 use Rattle.send.specs.Makers.{ends, sendsRepeat}
 use Rattle.send.proofs.Keeps.{again-sound, quiet-sound}
-use Rattle.clock.specs.Look.{packetDue, acknowledgeDue, afterOldest, exhausted, served, acknowledgedIf, lookedAt, looked, acknowledgedNow}
+use Rattle.clock.specs.Look.{packetDue, acknowledgeDue, afterOldest, exhausted, served, acknowledgedIf, lookedOpen, looked, acknowledgedNow}
 
 served-sound : (l : Link) (slots frame : List ℕ) (ms number : ℕ) → Sound l → Sound (served l slots frame ms number .told .state)
 served-sound l slots frame ms number s =
@@ -26,9 +26,9 @@ acknowledgedIf-sound : (owed : Bool) (l : Link) (slots frame : List ℕ) → Sou
 acknowledgedIf-sound true l slots frame s = quiet-sound l s
 acknowledgedIf-sound false l slots frame s = s
 
-lookedAt-sound : (l : Link) (slots frame : List ℕ) (ms : ℕ) → Sound l → Sound (lookedAt l slots frame ms .told .state)
-unfolding lookedAt
-lookedAt-sound l slots frame ms s = go (packetDue l (afterOldest l) ms) (packetDue l 0 ms)
+lookedOpen-sound : (l : Link) (slots frame : List ℕ) (ms : ℕ) → Sound l → Sound (lookedOpen l slots frame ms .told .state)
+unfolding lookedOpen
+lookedOpen-sound l slots frame ms s = go (packetDue l (afterOldest l) ms) (packetDue l 0 ms)
   where
     go : (first second : Bool)
         → Sound (cond first (served l slots frame ms (sentBefore l (afterOldest l)))
@@ -40,7 +40,7 @@ lookedAt-sound l slots frame ms s = go (packetDue l (afterOldest l) ms) (packetD
 pub looked-sound : (l : Link) (slots frame : List ℕ) (ms : ℕ) → Sound l → Sound (looked l slots frame ms .told .outcome .state)
 unfolding looked
 looked-sound l slots frame ms s =
-    gated-sound (gateOf l (length slots) (length frame)) l slots frame (lookedAt l slots frame ms) s (λ e. lookedAt-sound l slots frame ms s)
+    gated-sound (gateOf l (length slots) (length frame)) l slots frame (lookedOpen l slots frame ms) s (λ e. lookedOpen-sound l slots frame ms s)
 
 pub acknowledgedNow-sound : (l : Link) (slots frame : List ℕ) → Sound l → Sound (acknowledgedNow l slots frame .told .state)
 unfolding acknowledgedNow

@@ -47,8 +47,8 @@ acknowledgedIf owed l slots frame = ends (cond owed (sendsAck l frame) (silent l
 
 -- "Looking at the clock serves the oldest waiting packet if due, else the newer, else the acknowledge timer (a control ACK, timer stopped),
 -- else sends nothing."
-unfoldable pub lookedAt : Link → List ℕ → List ℕ → ℕ → After Outcome
-lookedAt l slots frame ms =
+unfoldable pub lookedOpen : Link → List ℕ → List ℕ → ℕ → After Outcome
+lookedOpen l slots frame ms =
     cond (packetDue l (afterOldest l) ms) (served l slots frame ms (sentBefore l (afterOldest l)))
     (cond (packetDue l 0 ms) (served l slots frame ms (sentBefore l 0))
     (acknowledgedIf (acknowledgeDue l ms) l slots frame))
@@ -58,9 +58,9 @@ abbrev pub looking : After Outcome → After Looked
 looking a = after (record { outcome = a .told }) (a .slots) (a .frame)
 
 unfoldable pub looked : Link → List ℕ → List ℕ → ℕ → After Looked
-unfolding gateOf lookedAt
+unfolding gateOf lookedOpen
 looked l slots frame ms =
-    looking (gated (gateOf l (length slots) (length frame)) l slots frame (lookedAt l slots frame ms))
+    looking (gated (gateOf l (length slots) (length frame)) l slots frame (lookedOpen l slots frame ms))
 
 -- ""Acknowledge now" sends a control ACK if the acknowledge timer runs and stops it, else sends nothing."
 unfoldable pub acknowledgedNow : Link → List ℕ → List ℕ → After Outcome

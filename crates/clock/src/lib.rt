@@ -10,7 +10,7 @@ ghost use Rattle.base.specs.Answer.{done, linkLost};
 ghost use Rattle.state.specs.Fields.{withLost};
 ghost use Rattle.state.specs.Gate.{after, only, gateOf};
 ghost use Rattle.send.specs.Repeat.{mayRepeat, Ready};
-ghost use Rattle.clock.specs.Look.{packetDue, acknowledgeDue, afterOldest, served, acknowledgedIf, lookedAt, looked, acknowledgedNow};
+ghost use Rattle.clock.specs.Look.{packetDue, acknowledgeDue, afterOldest, served, acknowledgedIf, lookedOpen, looked, acknowledgedNow};
 
 // look's answer: a type of its own, so that it can tell more than the other calls' do later, e.g. when the next timer is due.
 pub struct Looked {
@@ -78,7 +78,7 @@ fn acknowledge_if(l: Link, slots: &[u8], frame: &mut [u8], owed: bool) -> Outcom
 
 fn look_open(l: Link, slots: &[u8], frame: &mut [u8], ms: u32) -> Outcome
     requires { ⌜ gateOf l (length (now slots)) (length (now frame)) ≡ done ⌝ }
-    ensures { λ r. ⌜ after r (now (slots .entry)) (now (frame .exit)) ≡ lookedAt l (now (slots .entry)) (now (frame .entry)) ms ⌝ }
+    ensures { λ r. ⌜ after r (now (slots .entry)) (now (frame .exit)) ≡ lookedOpen l (now (slots .entry)) (now (frame .entry)) ms ⌝ }
 {
     let n = after_oldest(l);
     if is_packet_due(l, n, ms) {

@@ -44,12 +44,16 @@ after-example8 e =
 longer : (e : End) (size : ℕ) → size ≤ 16 → ltb (e .settings .d) size ≡ false
 longer e size h = le-ltb (e .settings .d) size (omega (arith, inRange-facts (e .settings) (e .range) .d-lo))
 
+-- example 6's frame
+abbrev six : List ℕ
+six = 0x03 ∷ 0x00 ∷ 0x01 ∷ 0x00 ∷ 0x15 ∷ 0x3C ∷ []
+
 delivered : (e : End) → example6Taken e ≡ after (told (delivered0 e) done 0 1) (e .slots) (e .frame)
 unfolding checksumOf frameOf sealed freshOf heard judged obeyed
-delivered e = opened e (freshOf (e .settings)) (e .ms) (0x03 ∷ 0x00 ∷ 0x01 ∷ 0x00 ∷ 0x15 ∷ 0x3C ∷ []) (fresh-end e) refl refl ∙ rw (longer e 6 (omega arith))
+delivered e = opened e (freshOf (e .settings)) (e .ms) six (fresh-end e) refl refl ∙ rw (longer e 6 (omega arith))
 
 abbrev second : ℕ → After Outcome → After Outcome
-second later a = taken (a .told .state) (a .slots) (a .frame) later (0x03 ∷ 0x00 ∷ 0x01 ∷ 0x00 ∷ 0x15 ∷ 0x3C ∷ [])
+second later a = taken (a .told .state) (a .slots) (a .frame) later six
 
 pub shown : Table
 unfolding checksumOf frameOf sealed freshOf heard judged obeyed
@@ -64,9 +68,9 @@ shown = record {
   example7-step4 = λ d h. rw (le-ltb d 5 h);
   example7 = λ e. opened e (freshOf (e .settings)) (e .ms) (0x00 ∷ 0x00 ∷ 0x00 ∷ 0x00 ∷ 0x00 ∷ []) (fresh-end e) refl refl ∙ rw (longer e 5 (omega arith));
   example8 = delivered;
-  example8-packet = λ e. ap (λ (a : After Outcome). packetIn (0x03 ∷ 0x00 ∷ 0x01 ∷ 0x00 ∷ 0x15 ∷ 0x3C ∷ []) (a .told .delivered)) (delivered e);
+  example8-packet = λ e. ap (λ (a : After Outcome). packetIn six (a .told .delivered)) (delivered e);
   example9 = λ e later. ap (second later) (delivered e)
-      ∙ opened e (delivered0 e) later (0x03 ∷ 0x00 ∷ 0x01 ∷ 0x00 ∷ 0x15 ∷ 0x3C ∷ []) (after-example8 e) refl refl ∙ rw (longer e 6 (omega arith));
+      ∙ opened e (delivered0 e) later six (after-example8 e) refl refl ∙ rw (longer e 6 (omega arith));
   example10 = λ a b c d e f g h i j. refl;
   example11 = λ a b c d e f g h i j k. refl;
   example12 = refl;

@@ -8,12 +8,12 @@ use lib.Dec.{eqb}
 use lib.ListN.{length, getD}
 use lib.Bits.{bitXor}
 
--- "combine with 0x8408 when the bit leaving differs": whether it is the same, and the seed shifted right
+-- whether the bit leaving is the same as the byte's, and the seed shifted right
 abbrev pub combine : Bool → ℕ → ℕ
 combine true half = half
 combine false half = bitXor half 0x8408
 
--- the bit rule
+-- "shift right and combine with 0x8408 when the bit leaving differs from the byte's bit (section 8.1.1)"
 unfoldable pub bitStep : ℕ → ℕ → ℕ
 bitStep seed bit = combine (eqb (seed % 2) bit) (seed / 2)
 

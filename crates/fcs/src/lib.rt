@@ -23,7 +23,7 @@ pub fn bit_rule(seed: u16, byte: u8) -> u16
     crc
 }
 
-// One byte by the table.
+// "The work uses a table of 256 entries".
 fn step(table: &[u16; 256], seed: u16, byte: u8) -> u16
     requires { ⌜ Agrees (now table) ⌝ }
     ensures { λ r. ⌜ r ≡ byteStep seed byte ⌝ }

@@ -161,7 +161,7 @@ fn put_head(frame: &mut [u8], fctr: u8, len: u16)
     frame[2] = (len % 256) as u8;
 }
 
-// Puts FCS behind the bytes that it covers, and tells the frame's length.
+// "FCS covers all before it".
 fn seal(frame: &mut [u8], covered: usize) -> u16
     requires { ⌜ (covered + 2 ≤ length (now frame)) × (covered + 2 < 65536) ⌝ }
     ensures { λ r. ⌜ Written (sealed (take covered (now (frame .entry)))) (now (frame .entry)) (now (frame .exit)) r ⌝ }

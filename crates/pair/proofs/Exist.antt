@@ -36,7 +36,7 @@ use Rattle.pair.proofs.Line.{Line, data-next, ack-next, idle-next, Idle
 use Rattle.pair.proofs.Invariant.{Inv, inv-swap}
 use Rattle.pair.proofs.Calls.{sent-frame, repeatOf, repeat-size, repeat-heard}
 use Rattle.pair.proofs.Moves.{moment-range, moment-kept}
-use Rattle.pair.proofs.Measure.{bit, weight, Looked}
+use Rattle.pair.proofs.Measure.{bit, weight, CalmLook}
 use Rattle.pair.proofs.Timers.{Moved, moved}
 use Rattle.pair.proofs.Falls.{carried-falls, look-does, look-falls, onward-clock}
 
@@ -270,7 +270,7 @@ watched-by s ms S c r I more = go (eqb (lookOf S frame ms .told .sent) 0) refl
     frame : List ℕ
     frame = blank (frameNeed (S .here .state .settings))
 
-    k : Looked (S .here .state) (lookOf S frame ms) (dueAt (S .here .state) ms && not (S .here .state .lost))
+    k : CalmLook (S .here .state) (lookOf S frame ms) (dueAt (S .here .state) ms && not (S .here .state .lost))
     k = look-does s S frame ms I (enough S)
 
     J : Inv s (looks S frame ms)

@@ -29,15 +29,15 @@ use Rattle.send.specs.Makers.{silent, ends, sends, marked, sendsRepeat}
 use Rattle.receive.specs.Steps.{repeatable}
 use Rattle.receive.specs.Take.{obeyed, taken}
 use Rattle.receive.proofs.Facts.{freed-fewer, repeatable-holds, data-taken}
-use Rattle.clock.specs.Look.{lookedAt, looked}
+use Rattle.clock.specs.Look.{lookedOpen, looked}
 use Rattle.pair.specs.System.{System, swap, deliveredBy, takes, lookOf, looks, IsClock}
 use Rattle.state.specs.Timer.{onward}
-use Rattle.pair.specs.Round.{Enough, Carried, head, Carries, none, here, there, runs, dueAt, someRuns, someDue, Passes, stays, first, Looks, nothing, sends-on, Round, round, other-first, Rounds, begin, next}
+use Rattle.pair.specs.Round.{Enough, Carried, head, Carries, none, here, there, runs, dueAt, someRuns, someDue, Passes, stays, moves, Looks, nothing, sends-on, Round, round, other-first, Rounds, begin, next}
 use Rattle.pair.specs.Demand3.{Through, Alive, WithinRounds, Within24}
 use Rattle.pair.proofs.Line.{Line, data-next, ack-next, idle-next, Idle, by-size, by-sum, a-nak, line-taken, line-freed}
 use Rattle.pair.proofs.Invariant.{Inv, inv-swap, window-small}
 use Rattle.pair.proofs.Moves.{take-kept, look-kept, moment-range, moment-kept}
-use Rattle.pair.proofs.Measure.{looked-same, bit, bit-small, weight, spare-bound, freed-spare, again-weight, Calm, Looked, looked-look}
+use Rattle.pair.proofs.Measure.{looked-same, bit, bit-small, weight, spare-bound, freed-spare, again-weight, Calm, CalmLook, looked-look}
 
 -- ---- a frame taken
 
@@ -161,7 +161,7 @@ carries-falls s S U ms c r I (there S₁ T U₁ k rest) =
 -- ---- looking
 
 -- one look, with a buffer that is long enough
-pub look-does : (s : Settings) (S : System) (frame : List ℕ) (ms : ℕ) → Inv s S → Enough S frame → Looked (S .here .state) (lookOf S frame ms) (dueAt (S .here .state) ms && not (S .here .state .lost))
+pub look-does : (s : Settings) (S : System) (frame : List ℕ) (ms : ℕ) → Inv s S → Enough S frame → CalmLook (S .here .state) (lookOf S frame ms) (dueAt (S .here .state) ms && not (S .here .state .lost))
 unfolding looked
 look-does s S frame ms I enough = go (l .lost) refl
   where
@@ -174,14 +174,14 @@ look-does s S frame ms I enough = go (l .lost) refl
     g : ℕ
     g = gateOf l (length (S .here .slots)) (length frame)
 
-    go : (t : Bool) → l .lost ≡ t → Looked l (gated g l (S .here .slots) frame (lookedAt l (S .here .slots) frame ms)) (dueAt l ms && not t)
-    go true e = gated-cases (λ a. Looked l a (dueAt l ms && false)) g l (S .here .slots) frame (lookedAt l (S .here .slots) frame ms)
+    go : (t : Bool) → l .lost ≡ t → CalmLook l (gated g l (S .here .slots) frame (lookedOpen l (S .here .slots) frame ms)) (dueAt l ms && not t)
+    go true e = gated-cases (λ a. CalmLook l a (dueAt l ms && false)) g l (S .here .slots) frame (lookedOpen l (S .here .slots) frame ms)
         (λ q. absurd (true≢false (sym e ∙ gateOf-facts l (length (S .here .slots)) (length frame) q .alive)))
         (λ n. looked-same l (S .here .slots) frame g (dueAt l ms && false) (λ o. true≢false (sym (and-right (dueAt l ms) false o))))
     go false e =
         let open-gate : g ≡ done = sound-open l (length (S .here .slots)) (length frame) (I .here .sound) e room enough in
-        subst (λ y. Looked l y (dueAt l ms && true)) (sym (gated-open g l (S .here .slots) frame (lookedAt l (S .here .slots) frame ms) open-gate))
-        (subst (λ o. Looked l (lookedAt l (S .here .slots) frame ms) o) (sym (and-true (dueAt l ms))) (looked-look l (S .here .slots) frame ms (I .here .sound) e))
+        subst (λ y. CalmLook l y (dueAt l ms && true)) (sym (gated-open g l (S .here .slots) frame (lookedOpen l (S .here .slots) frame ms) open-gate))
+        (subst (λ o. CalmLook l (lookedOpen l (S .here .slots) frame ms) o) (sym (and-true (dueAt l ms))) (looked-look l (S .here .slots) frame ms (I .here .sound) e))
 
 pub look-falls : (s : Settings) (S : System) (frame : List ℕ) (ms : ℕ) → IsClock ms → InRange s → Inv s S → Enough S frame → Falls s S (looks S frame ms)
 look-falls s S frame ms c r I enough =
@@ -220,7 +220,7 @@ looks-seen s S T ms c r I (nothing S₁ frame enough z) = record {
   served = λ d alive. absurd (silent-due d alive);
 }
   where
-    k : Looked (S .here .state) (lookOf S frame ms) (dueAt (S .here .state) ms && not (S .here .state .lost))
+    k : CalmLook (S .here .state) (lookOf S frame ms) (dueAt (S .here .state) ms && not (S .here .state .lost))
     k = look-does s S frame ms I enough
 
     silent-due : dueAt (S .here .state) ms ≡ true → lookOf S frame ms .told .state .lost ≡ false → ⊥
@@ -271,7 +271,7 @@ turned-swap s S T passed k =
 
 passes-cases : (S : System) (ms passed : ℕ) → Passes S ms passed → ((passed ≡ 0) × (someRuns S ≡ false)) ⊎ (someDue S (onward ms passed) ≡ true)
 passes-cases S ms passed (stays e) = inl (refl, e)
-passes-cases S ms passed (first passed₁ e k) = inr e
+passes-cases S ms passed (moves passed₁ e k) = inr e
 
 pub onward-clock : (ms passed : ℕ) → IsClock (onward ms passed)
 onward-clock ms passed = omega arith
@@ -364,7 +364,7 @@ empty-through s S I e =
     let a : length (S .here .takenIn) ≤ I .gotThere = omega (arith, I .here .window, e .here, line-freed (s .d) (S .there .takenIn) (S .here .queue) (I .toHere)) in
     let b : length (S .there .takenIn) ≤ I .gotHere = omega (arith, I .there .window, e .there, line-freed (s .d) (S .here .takenIn) (S .there .queue) (I .toThere)) in
     record {
-      onward = I .there .first ∙ take-all (I .gotThere) (S .here .takenIn) a;
+      forth = I .there .first ∙ take-all (I .gotThere) (S .here .takenIn) a;
       back = I .here .first ∙ take-all (I .gotHere) (S .there .takenIn) b;
       window-here = e .here;
       window-there = e .there;

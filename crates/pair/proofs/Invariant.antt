@@ -26,6 +26,7 @@ use Rattle.send.proofs.Slots.{new-packet, old-packet, accepted-waits}
 use Rattle.receive.proofs.Keeps.{freed-sound, afterDelivery-sound}
 use Rattle.receive.specs.Steps.{freed, afterDelivery}
 use Rattle.pair.specs.System.{queued, Side, System, swap, Harm, freshSide, IsClock}
+use Rattle.pair.specs.Demand3.{FirstSoManyOf}
 use Rattle.pair.proofs.Line.{Line, clear, line-taken, line-freed, line-mono, line-tail, line-harm, line-data, line-more}
 
 -- the start times are clock values
@@ -373,5 +374,5 @@ inv-start s slots slots2 r h k = record {
 }
 
 -- the first half, of what holds
-pub inv-first : (s : Settings) (S : System) → Inv s S → (S .there .delivered ≡ take (length (S .there .delivered)) (S .here .takenIn)) × (S .here .delivered ≡ take (length (S .here .delivered)) (S .there .takenIn))
+pub inv-first : (s : Settings) (S : System) → Inv s S → FirstSoManyOf (S .there .delivered) (S .here .takenIn) × FirstSoManyOf (S .here .delivered) (S .there .takenIn)
 inv-first s S I = (rw (I .there .count) (I .there .first), rw (I .here .count) (I .here .first))

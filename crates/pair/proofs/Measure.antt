@@ -24,7 +24,7 @@ use Rattle.send.specs.Repeat.{packetOf, again, mayRepeat}
 use Rattle.send.specs.Makers.{ends, sendsRepeat}
 use Rattle.receive.specs.Steps.{freed}
 use Rattle.receive.proofs.Facts.{freed-fewer}
-use Rattle.clock.specs.Look.{packetDue, acknowledgeDue, afterOldest, exhausted, served, acknowledgedIf, lookedAt}
+use Rattle.clock.specs.Look.{packetDue, acknowledgeDue, afterOldest, exhausted, served, acknowledgedIf, lookedOpen}
 use Rattle.clock.proofs.Facts.{due-waits}
 use Rattle.pair.specs.Round.{dueAt}
 
@@ -107,14 +107,14 @@ pub record Calm (l : Link) (a : After Outcome) (delivered : ℕ) : Type 0 where
 -- ---- look
 
 -- what looking does to it: each frame sent costs one, and where a timer is due one is sent, or the link is lost
-pub record Looked (l : Link) (a : After Outcome) (owed : Bool) : Type 0 where
+pub record CalmLook (l : Link) (a : After Outcome) (owed : Bool) : Type 0 where
   pub low : weight (a .told .state) + bit (not (eqb (a .told .sent) 0)) ≤ weight l
   pub few : a .told .state .waiting ≤ l .waiting
   pub sticks : l .lost ≡ true → a .told .state .lost ≡ true
   pub served : owed ≡ true → a .told .state .lost ≡ false → eqb (a .told .sent) 0 ≡ false
   pub mute : a .told .delivered ≡ 0
 
-pub looked-same : (l : Link) (slots frame : List ℕ) (answer : ℕ) (owed : Bool) → (owed ≡ true → ⊥) → Looked l (refused l answer slots frame) owed
+pub looked-same : (l : Link) (slots frame : List ℕ) (answer : ℕ) (owed : Bool) → (owed ≡ true → ⊥) → CalmLook l (refused l answer slots frame) owed
 looked-same l slots frame answer owed n = record { low = omega arith; few = omega arith; sticks = λ h. h; served = λ o. absurd (n o); mute = refl }
 
 -- a frame that is sent has bytes
@@ -127,13 +127,13 @@ data-some number acknowledged packet = sent-some (dataFrame number acknowledged 
 control-some : (fctr : ℕ) → eqb (length (frameOf fctr [])) 0 ≡ false
 control-some fctr = sent-some (frameOf fctr []) (omega (arith, frameOf-length fctr []))
 
-served-look : (l : Link) (slots frame : List ℕ) (ms j : ℕ) (owed : Bool) → Sound l → l .lost ≡ false → j < l .waiting → Looked l (served l slots frame ms (sentBefore l j)) owed
+served-look : (l : Link) (slots frame : List ℕ) (ms j : ℕ) (owed : Bool) → Sound l → l .lost ≡ false → j < l .waiting → CalmLook l (served l slots frame ms (sentBefore l j)) owed
 served-look l slots frame ms j owed s alive h = go (mayRepeat l (sentBefore l j)) refl
   where
     k : ℕ
     k = sentBefore l j
 
-    go : (t : Bool) → mayRepeat l k ≡ t → Looked l (cond t (ends (sendsRepeat l slots frame ms k) done 0 slots) (exhausted l slots frame)) owed
+    go : (t : Bool) → mayRepeat l k ≡ t → CalmLook l (cond t (ends (sendsRepeat l slots frame ms k) done 0 slots) (exhausted l slots frame)) owed
     go true e = record {
       low = rw (data-some k (lastCorrect l) (packetOf l slots k)) (again-weight l ms j s h e);
       few = omega arith;
@@ -143,7 +143,7 @@ served-look l slots frame ms j owed s alive h = go (mayRepeat l (sentBefore l j)
     }
     go false e = record { low = omega arith; few = omega arith; sticks = λ q. refl; served = λ o q. absurd (true≢false q); mute = refl }
 
-acknowledged-look : (l : Link) (slots frame : List ℕ) (owed : Bool) → (owed ≡ true → l .acking ≡ true) → Looked l (acknowledgedIf owed l slots frame) owed
+acknowledged-look : (l : Link) (slots frame : List ℕ) (owed : Bool) → (owed ≡ true → l .acking ≡ true) → CalmLook l (acknowledgedIf owed l slots frame) owed
 acknowledged-look l slots frame true f = record {
   low = rw (control-some (0x80 + lastCorrect l)) (omega (arith, ap bit (f refl)));
   few = omega arith;
@@ -154,8 +154,8 @@ acknowledged-look l slots frame true f = record {
 acknowledged-look l slots frame false f = record { low = omega arith; few = omega arith; sticks = λ q. q; served = λ o. absurd (true≢false (sym o)); mute = refl }
 
 -- some timer of the end is due
-pub looked-look : (l : Link) (slots frame : List ℕ) (ms : ℕ) → Sound l → l .lost ≡ false → Looked l (lookedAt l slots frame ms) (dueAt l ms)
-unfolding lookedAt
+pub looked-look : (l : Link) (slots frame : List ℕ) (ms : ℕ) → Sound l → l .lost ≡ false → CalmLook l (lookedOpen l slots frame ms) (dueAt l ms)
+unfolding lookedOpen
 looked-look l slots frame ms s alive = go (packetDue l (afterOldest l) ms) (packetDue l 0 ms) refl refl
   where
     formed : Formed l
@@ -173,7 +173,7 @@ looked-look l slots frame ms s alive = go (packetDue l (afterOldest l) ms) (pack
         inner false q = refl
 
     go : (first second : Bool) → packetDue l (afterOldest l) ms ≡ first → packetDue l 0 ms ≡ second
-        → Looked l (cond first (served l slots frame ms (sentBefore l (afterOldest l)))
+        → CalmLook l (cond first (served l slots frame ms (sentBefore l (afterOldest l)))
         (cond second (served l slots frame ms (sentBefore l 0)) (acknowledgedIf (acknowledgeDue l ms) l slots frame))) (second || packetDue l 1 ms || acknowledgeDue l ms)
     go true second e e₁ = served-look l slots frame ms (afterOldest l) (second || packetDue l 1 ms || acknowledgeDue l ms) s alive (due-waits l (afterOldest l) ms e)
     go false true e e₁ = served-look l slots frame ms 0 true s alive (due-waits l 0 ms e₁)

@@ -15,7 +15,7 @@ use Rattle.state.specs.Formed.{InRange}
 use Rattle.clock.specs.Look.{packetDue, acknowledgeDue}
 use Rattle.clock.proofs.Facts.{due-waits}
 use Rattle.pair.specs.System.{System, swap, IsClock}
-use Rattle.pair.specs.Round.{runs, dueAt, someRuns, someDue, Passes, stays, first, Round, round, other-first, Rounds, begin, next}
+use Rattle.pair.specs.Round.{runs, dueAt, someRuns, someDue, Passes, stays, moves, Round, round, other-first, Rounds, begin, next}
 use Rattle.pair.specs.Demand3.{Alive, InMilliseconds}
 use Rattle.pair.proofs.Invariant.{Inv, inv-swap}
 use Rattle.pair.proofs.Moves.{moment-range, moment-kept}
@@ -44,7 +44,7 @@ some-due-runs S ms e = go (dueAt (S .here .state) ms) refl e
 -- the clock is moved by at most TRANS_TIMEOUT
 pub passes-short : (s : Settings) (S : System) (ms passed : ℕ) → InRange s → Inv s S → IsClock ms → Passes S ms passed → passed ≤ s .transmit
 passes-short s S ms passed r I c (stays e) = omega arith
-passes-short s S ms passed r I c (first passed₁ e k) =
+passes-short s S ms passed r I c (moves passed₁ e k) =
     let w : Soon (λ n. someDue S (onward ms n)) (s .transmit) = some-soon s S ms r I c (some-due-runs S (onward ms passed) e) in
     go w (ltb (w .after) passed) refl
   where

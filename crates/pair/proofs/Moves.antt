@@ -30,7 +30,7 @@ use Rattle.send.specs.Submit.{submitGate, sentFirst, packetAccepted, submitted}
 use Rattle.send.specs.Makers.{silent, ends, sendsAck, sendsRepeat}
 use Rattle.send.proofs.Facts.{Accepting, submitGate-facts, part-fits}
 use Rattle.send.proofs.Keeps.{sentFirst-sound}
-use Rattle.clock.specs.Look.{packetDue, acknowledgeDue, afterOldest, exhausted, served, acknowledgedIf, lookedAt, looked, acknowledgedNow}
+use Rattle.clock.specs.Look.{packetDue, acknowledgeDue, afterOldest, exhausted, served, acknowledgedIf, lookedOpen, looked, acknowledgedNow}
 use Rattle.receive.specs.Steps.{freed, repeatable, afterDelivery}
 use Rattle.receive.specs.Take.{obeyed, taken}
 use Rattle.receive.proofs.Facts.{repeatable-holds, data-taken}
@@ -214,10 +214,10 @@ acknowledged-kept : (s : Settings) (S : System) (frame : List ℕ) (owed : Bool)
 acknowledged-kept s S frame true r room I = ends-ack s S frame (S .here .queue) done r (omega (arith, r .d-lo)) I
 acknowledged-kept s S frame false r room I = ends-nothing s S frame (S .here .queue) done I
 
-lookedAt-kept : (s : Settings) (S : System) (frame : List ℕ) (ms : ℕ) → IsClock ms → InRange s → s .d ≤ length frame → Inv s S
-    → Inv s (called S (lookedAt (S .here .state) (S .here .slots) frame ms) (S .here .queue) [] [])
-unfolding lookedAt
-lookedAt-kept s S frame ms c r room I = go (packetDue l (afterOldest l) ms) (packetDue l 0 ms) refl refl
+lookedOpen-kept : (s : Settings) (S : System) (frame : List ℕ) (ms : ℕ) → IsClock ms → InRange s → s .d ≤ length frame → Inv s S
+    → Inv s (called S (lookedOpen (S .here .state) (S .here .slots) frame ms) (S .here .queue) [] [])
+unfolding lookedOpen
+lookedOpen-kept s S frame ms c r room I = go (packetDue l (afterOldest l) ms) (packetDue l 0 ms) refl refl
   where
     l : Link
     l = S .here .state
@@ -243,7 +243,7 @@ open-kept s S frame inside I f =
 
 pub look-kept : (s : Settings) (S : System) (frame : List ℕ) (ms : ℕ) → IsClock ms → InRange s → Inv s S → Inv s (looks S frame ms)
 unfolding looked
-look-kept s S frame ms c r I = open-kept s S frame (lookedAt (S .here .state) (S .here .slots) frame ms) I (λ room. lookedAt-kept s S frame ms c r room I)
+look-kept s S frame ms c r I = open-kept s S frame (lookedOpen (S .here .state) (S .here .slots) frame ms) I (λ room. lookedOpen-kept s S frame ms c r room I)
 
 pub acknowledge-kept : (s : Settings) (S : System) (frame : List ℕ) → InRange s → Inv s S → Inv s (acknowledges S frame)
 unfolding acknowledgedNow

@@ -14,7 +14,7 @@ use Rattle.state.specs.Formed.{InRange}
 use Rattle.state.proofs.Facts.{left-due}
 use Rattle.clock.specs.Look.{packetDue, acknowledgeDue}
 use Rattle.pair.specs.System.{System, IsClock}
-use Rattle.pair.specs.Round.{runs, dueAt, someRuns, someDue, Passes, stays, first}
+use Rattle.pair.specs.Round.{runs, dueAt, someRuns, someDue, Passes, stays, moves}
 use Rattle.pair.proofs.Invariant.{Timed, Inv}
 
 -- ---- the least number at which a test holds
@@ -106,5 +106,5 @@ moved s S ms r I c = go (someRuns S) refl
     go true e =
         let k : Soon (λ k. someDue S (onward ms k)) (s .transmit) = some-soon s S ms r I c e in
         let m : Least (λ k. someDue S (onward ms k)) (k .after) = least (λ k. someDue S (onward ms k)) (k .after) (k .holds) in
-        record { passed = m .at; passes = first (m .at) (m .holds) (m .before) }
+        record { passed = m .at; passes = moves (m .at) (m .holds) (m .before) }
     go false e = record { passed = 0; passes = stays e }

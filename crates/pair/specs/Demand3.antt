@@ -10,17 +10,17 @@ use Rattle.pair.specs.System.{System, IsClock, Moment}
 use Rattle.pair.specs.Round.{Carries, carriedIn, Rounds}
 
 -- demand 3: "the packets delivered each way are at every moment the first so many of those taken: same bytes, same order, each once"
-abbrev pub FirstOf : List (List ℕ) → List (List ℕ) → Type 0
-FirstOf delivered takenIn = delivered ≡ take (length delivered) takenIn
+abbrev pub FirstSoManyOf : List (List ℕ) → List (List ℕ) → Type 0
+FirstSoManyOf delivered takenIn = delivered ≡ take (length delivered) takenIn
 
 abbrev pub FirstSoMany : Type 0
 FirstSoMany =
     (s : Settings) (S : System) → Moment s S
-    → FirstOf (S .there .delivered) (S .here .takenIn) × FirstOf (S .here .delivered) (S .there .takenIn)
+    → FirstSoManyOf (S .there .delivered) (S .here .takenIn) × FirstSoManyOf (S .here .delivered) (S .there .takenIn)
 
 -- demand 3: "every packet taken is delivered and both windows are empty"
 pub record Through (S : System) : Type 0 where
-  pub onward : S .there .delivered ≡ S .here .takenIn
+  pub forth : S .there .delivered ≡ S .here .takenIn
   pub back : S .here .delivered ≡ S .there .takenIn
   pub window-here : S .here .state .waiting ≡ 0
   pub window-there : S .there .state .waiting ≡ 0

@@ -26,7 +26,7 @@ pub data Carries (ms : ℕ) : System → System → Type 0 where
   here : (S T U : System) → Carried ms S T → Carries ms T U → Carries ms S U
   there : (S T U : System) → Carried ms (swap S) (swap T) → Carries ms T U → Carries ms S U
 
--- how many frames were carried
+-- for CarryingEnds: how many frames were carried
 abbrev pub carriedIn : {ms : ℕ} {S T : System} → Carries ms S T → ℕ
 carriedIn (none S) = 0
 carriedIn (here S T U k rest) = suc (carriedIn rest)
@@ -51,7 +51,7 @@ someDue S ms = dueAt (S .here .state) ms || dueAt (S .there .state) ms
 -- how far the clock is moved: to the first moment at which a timer is due, which is now if one is due now
 pub data Passes (S : System) (ms : ℕ) : ℕ → Type 0 where
   stays : someRuns S ≡ false → Passes S ms 0
-  first : (passed : ℕ) → someDue S (onward ms passed) ≡ true → ((k : ℕ) → k < passed → someDue S (onward ms k) ≡ false) → Passes S ms passed
+  moves : (passed : ℕ) → someDue S (onward ms passed) ≡ true → ((k : ℕ) → k < passed → someDue S (onward ms k) ≡ false) → Passes S ms passed
 
 -- ---- looking
 

@@ -12,7 +12,7 @@ use Rattle.frame.specs.Bytes.{nakFrame}
 use Rattle.state.specs.declared.Link.{Link}
 use Rattle.state.specs.Bounds.{limitOf}
 use Rattle.state.specs.State.{lastCorrect, sentBefore, slotOf, lengthOf, countOf}
-use Rattle.state.specs.Formed.{Length, Formed, Sound}
+use Rattle.state.specs.Formed.{LengthOk, Formed, Sound}
 use Rattle.state.proofs.Facts.{slotOf-small, slots-apart, wellFormed-facts, facts-wellFormed}
 use Rattle.state.proofs.Keeps.{changed-sound, marked-sound, gated-sound}
 use Rattle.send.specs.Repeat.{dataSent, again, mayRepeat}
@@ -49,7 +49,7 @@ sendsNak-sound l frame s = go (l .naked)
 -- ---- submit
 
 -- the newest packet has the new length; the one before keeps its own, since in a window of two the other slot is its
-newest-length : (l : Link) (packet : ℕ) → Sound l → 1 ≤ packet → packet ≤ limitOf (l .settings) → Length (added l packet) 0
+newest-length : (l : Link) (packet : ℕ) → Sound l → 1 ≤ packet → packet ≤ limitOf (l .settings) → LengthOk (added l packet) 0
 newest-length l packet s lo hi =
     let f : Formed l = wellFormed-facts l (s .formed) in
     let number : sentBefore (added l packet) 0 ≡ l .next = omega (arith, f .next) in
@@ -58,7 +58,7 @@ newest-length l packet s lo hi =
     let e : lengthOf (added l packet) (sentBefore (added l packet) 0) ≡ packet = rw number same in
     record { least = omega (arith, e); most = omega (arith, e) }
 
-older-length : (l : Link) (packet n : ℕ) → Sound l → l .waiting < l .settings .window → n < l .waiting → Length (added l packet) (suc n)
+older-length : (l : Link) (packet n : ℕ) → Sound l → l .waiting < l .settings .window → n < l .waiting → LengthOk (added l packet) (suc n)
 older-length l packet n s place h =
     let f : Formed l = wellFormed-facts l (s .formed) in
     let one : n ≡ 0 = omega (arith, f .settings) in
@@ -67,7 +67,7 @@ older-length l packet n s place h =
     let kept : lengthOf (added l packet) (sentBefore l 0) ≡ lengthOf l (sentBefore l 0) =
     getD-set-other (l .lengths) (slotOf l (l .next)) (slotOf l (sentBefore l 0)) packet 0 (slots-apart l (sentBefore l 0) two refl) in
     let e : lengthOf (added l packet) (sentBefore (added l packet) (suc n)) ≡ lengthOf l (sentBefore l 0) = rw number kept in
-    let first : Length l 0 = f .lengths 0 (omega arith) in
+    let first : LengthOk l 0 = f .lengths 0 (omega arith) in
     record { least = omega (arith, e, first .least); most = omega (arith, e, first .most) }
 
 added-sound : (l : Link) (packet : ℕ) → Sound l → 1 ≤ packet → packet ≤ limitOf (l .settings) → l .waiting < l .settings .window → Sound (added l packet)
@@ -87,7 +87,7 @@ added-sound l packet s lo hi place =
       });
     }
   where
-    lengths : (n : ℕ) → n < l .waiting + 1 → Length (added l packet) n
+    lengths : (n : ℕ) → n < l .waiting + 1 → LengthOk (added l packet) n
     lengths zero h = newest-length l packet s lo hi
     lengths (suc n) h = older-length l packet n s place (omega arith)
 

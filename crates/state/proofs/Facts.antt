@@ -18,7 +18,7 @@ use Rattle.state.specs.Bounds.{limitOf, inRange, slotsNeed, frameNeed}
 use Rattle.state.specs.State.{sentBefore, slotOf, lengthOf, lengthOk, numbersOk, wellFormed}
 use Rattle.state.specs.Gate.{After, refused, gated, entryOf, gateOf}
 use Rattle.state.specs.Timer.{elapsed, left, due, onward}
-use Rattle.state.specs.Formed.{InRange, Length, Formed, Entered, Open}
+use Rattle.state.specs.Formed.{InRange, LengthOk, Formed, Entered, Open}
 
 -- ---- settings
 
@@ -84,12 +84,12 @@ part-inside slot window m length slots h l r = omega (arith, mul-le-mul-right m 
 
 -- ---- well formed
 
-length-facts : (l : Link) (n : ℕ) → lengthOk l (sentBefore l n) ≡ true → Length l n
+length-facts : (l : Link) (n : ℕ) → lengthOk l (sentBefore l n) ≡ true → LengthOk l n
 length-facts l n e =
     let k : ℕ = sentBefore l n in
     record { least = within-low 1 (lengthOf l k) (limitOf (l .settings)) e; most = within-high 1 (lengthOf l k) (limitOf (l .settings)) e }
 
-facts-length : (l : Link) (n : ℕ) → Length l n → lengthOk l (sentBefore l n) ≡ true
+facts-length : (l : Link) (n : ℕ) → LengthOk l n → lengthOk l (sentBefore l n) ≡ true
 facts-length l n f = rw (le-leb 1 (lengthOf l (sentBefore l n)) (f .least), le-leb (lengthOf l (sentBefore l n)) (limitOf (l .settings)) (f .most))
 
 -- the clauses of `numbersOk`, each by itself
@@ -128,7 +128,7 @@ numbers l e =
     }
 
 -- what waits in a window of at most two is the newest or the one before
-waiting-lengths : (l : Link) → Numbers l → l .settings .window ≤ 2 → (n : ℕ) → n < l .waiting → Length l n
+waiting-lengths : (l : Link) → Numbers l → l .settings .window ≤ 2 → (n : ℕ) → n < l .waiting → LengthOk l n
 waiting-lengths l f h zero w = length-facts l 0 (or-right (ltb (l .waiting) 1) _ (f .newest) (le-ltb (l .waiting) 1 w))
 waiting-lengths l f h (suc zero) w = length-facts l 1 (or-right (ltb (l .waiting) 2) _ (f .older) (le-ltb (l .waiting) 2 w))
 waiting-lengths l f h (suc (suc n)) w = absurd (omega (arith, leb-true (l .waiting) (l .settings .window) (f .waiting)))
@@ -152,7 +152,7 @@ wellFormed-facts l e =
       counts = both-counts l f;
     }
 
-unless-fewer : (l : Link) (n : ℕ) → ((n < l .waiting) → Length l n) → (ltb (l .waiting) (suc n) || lengthOk l (sentBefore l n)) ≡ true
+unless-fewer : (l : Link) (n : ℕ) → ((n < l .waiting) → LengthOk l n) → (ltb (l .waiting) (suc n) || lengthOk l (sentBefore l n)) ≡ true
 unless-fewer l n f = go (ltb (l .waiting) (suc n)) refl
   where
     go : (t : Bool) → ltb (l .waiting) (suc n) ≡ t → (t || lengthOk l (sentBefore l n)) ≡ true

@@ -22,7 +22,7 @@ pub record InRange (s : Settings) : Type 0 where
   pub repeats-hi : s .repeats ≤ 4
 
 -- the packet that n were sent after has a length of 1 to m
-pub record Length (l : Link) (n : ℕ) : Type 0 where
+pub record LengthOk (l : Link) (n : ℕ) : Type 0 where
   pub least : 1 ≤ lengthOf l (sentBefore l n)
   pub most : lengthOf l (sentBefore l n) ≤ limitOf (l .settings)
 
@@ -31,7 +31,7 @@ pub record Formed (l : Link) : Type 0 where
   pub next : l .next ≤ 3
   pub expected : l .expected ≤ 3
   pub waiting : l .waiting ≤ l .settings .window
-  pub lengths : (n : ℕ) → n < l .waiting → Length l n
+  pub lengths : (n : ℕ) → n < l .waiting → LengthOk l n
   pub counts : (i : ℕ) → i < 2 → getD (l .counts) i 0 ≤ l .settings .repeats
 
 pub record Entered (l : Link) (slots frame : ℕ) : Type 0 where

@@ -2,7 +2,7 @@
 -- Assumes nothing.
 use mathlib.Core.Path.{sym, _∙_}
 use Rattle.state.proofs.Facts.{gateOf-facts, control-fits}
-use Rattle.clock.specs.Look.{lookedAt}
+use Rattle.clock.specs.Look.{lookedOpen}
 use Rattle.clock.proofs.Facts.{due-ready}
 use native.Mathlib.Omega.{arith}
 use borrow.Author.Needs.{needs}
@@ -22,7 +22,7 @@ serve-requires c κs = let o = gateOf-facts _ _ _ (c .before .before .before .be
 )
 
 returns : tie.Need-returns
-unfolding lookedAt
+unfolding lookedOpen
 returns c = rw (← c .before .before .before .before .before .before .before .after-oldest .ensures, ← c .before .before .before .before .before .before .is-packet-due .ensures, c .before .before .before .before .before .if1 .taken, ← c .before .before .before .sent-before .ensures .0) (c .before .before .serve .ensures)
 
 is-packet-due-requires-2 : tie.Need-is-packet-due-requires-2
@@ -35,14 +35,14 @@ serve-requires-2 c κs = let o = gateOf-facts _ _ _ (c .before .before .before .
 )
 
 returns-2 : tie.Need-returns-2
-unfolding lookedAt
+unfolding lookedOpen
 returns-2 c = rw (← c .before .before .before .before .before .before .before .before .before .after-oldest .ensures, ← c .before .before .before .before .before .before .before .before .is-packet-due .ensures, c .before .before .before .before .before .before .before .if1 .left, ← c .before .before .before .before .before .before .is-packet-due2 .ensures, c .before .before .before .before .before .if2 .taken, ← c .before .before .before .sent-before2 .ensures .0) (c .before .before .serve2 .ensures)
 
 acknowledge-if-requires : tie.Need-acknowledge-if-requires
 acknowledge-if-requires c κs = control-fits _ _ _ (gateOf-facts _ _ _ (c .before .before .before .before .before .before .before .before .before .pre) .entered)
 
 returns-3 : tie.Need-returns-3
-unfolding lookedAt
+unfolding lookedOpen
 returns-3 c = rw (← c .before .before .before .before .before .before .before .before .before .after-oldest .ensures, ← c .before .before .before .before .before .before .before .before .is-packet-due .ensures, c .before .before .before .before .before .before .before .if1 .left, ← c .before .before .before .before .before .before .is-packet-due2 .ensures, c .before .before .before .before .before .if2 .left, ← c .before .before .before .is-acknowledge-due .ensures) (c .before .before .acknowledge-if .ensures)
 
 pub look-open-spec : {M : Type 1} → statement M
