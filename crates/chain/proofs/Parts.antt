@@ -11,8 +11,8 @@ use lib.Seq.{take-length, take-all}
 use lib.Dec.{ltb}
 use Rattle.base.specs.Range.{within}
 use Rattle.base.specs.Buffer.{put}
-use Rattle.base.proofs.Put.{put-length, put-put, put-sets}
 use Rattle.base.specs.Answer.{done, outOfRange, shortBuffer, messageSize, noSuchPacket}
+use Rattle.base.proofs.Put.{put-length, put-put, put-sets}
 use Rattle.base.proofs.Tests.{cond-cases, within-low, within-high, passed, spared, firstOf-four}
 use Rattle.chain.specs.Cut.{limitOk, longest, leastOf, partSize, packetCount, chainAt, packetAt, cutGate, cutting, given}
 use Rattle.chain.specs.Pctr.{pctrOf}

@@ -9,8 +9,8 @@ use borrow.Author.Tests.{eqb-true, not-false, le-ltb, le-leb, lt-leb, eq-eqb, ne
 use lib.ListN.{length, take, drop, getD}
 use lib.Seq.{drop-cons, take-append-seam, drop-append-seam}
 use lib.Dec.{eqb, ltb}
-use Rattle.fcs.specs.Checksum.{checksumOf}
 use Rattle.base.proofs.Tests.{or-right-false, cond-cases}
+use Rattle.fcs.specs.Checksum.{checksumOf}
 use Rattle.frame.specs.declared.Heard.{Heard}
 use Rattle.frame.specs.declared.Heard.the-variants.{Size, Sum, Code, ControlSize, Length, Reset, Ack, Nak, Data}
 use Rattle.frame.specs.Bytes.{lenBytes, fcsBytes, sealed, frameOf, resetFrame}

@@ -6,9 +6,9 @@ use native.Mathlib.Numerals.{add-one}
 use native.Mathlib.Omega.{arith}
 use lib.ListN.{length, take, set, getD, length-append}
 use lib.Seq.{length-take-le}
-use Rattle.fcs.specs.Checksum.{checksumOf}
 use Rattle.base.specs.Buffer.{put}
 use Rattle.base.proofs.Put.{put-take, put-put, put-sets, put-front, put-over}
+use Rattle.fcs.specs.Checksum.{checksumOf}
 use Rattle.frame.specs.Bytes.{lenBytes, fcsBytes, sealed, frameOf, Written}
 
 pub sealed-length : (covered : List ℕ) → length (sealed covered) ≡ length covered + 2

@@ -4,8 +4,8 @@ use Prim.Native.Nat.{ℕ, _+_, _*_, _/_, _%_}
 use mathlib.Core.List.{List, [], _∷_, _++_}
 use mathlib.Core.Path.{_≡_}
 use lib.ListN.{length}
-use Rattle.fcs.specs.Checksum.{checksumOf}
 use Rattle.base.specs.Buffer.{put}
+use Rattle.fcs.specs.Checksum.{checksumOf}
 
 -- "LEN (two bytes, high first)"
 abbrev pub lenBytes : ℕ → List ℕ

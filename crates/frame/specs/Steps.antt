@@ -4,9 +4,9 @@ use mathlib.Core.Bool.{Bool, true, false, cond, not, _&&_, _||_}
 use mathlib.Core.List.{List, [], _∷_}
 use lib.ListN.{length, take, drop, getD}
 use lib.Dec.{eqb, leb, ltb}
-use Rattle.fcs.specs.Checksum.{checksumOf}
 use Rattle.base.specs.Range.{within}
 use Rattle.base.specs.Answer.{done, badFrame, unusedCode, controlSize}
+use Rattle.fcs.specs.Checksum.{checksumOf}
 use Rattle.frame.specs.declared.Heard.{Heard}
 use Rattle.frame.specs.declared.Heard.the-variants.{Size, Sum, Code, ControlSize, Length, Reset, Ack, Nak, Data}
 use Rattle.frame.specs.Bytes.{fcsBytes}

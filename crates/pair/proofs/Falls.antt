@@ -22,6 +22,7 @@ use Rattle.state.specs.declared.Outcome.{Outcome}
 use Rattle.state.specs.Bounds.{slotsNeed}
 use Rattle.state.specs.State.{lastCorrect}
 use Rattle.state.specs.Gate.{After, refused, gated, gateOf}
+use Rattle.state.specs.Timer.{onward}
 use Rattle.state.specs.Formed.{InRange, Sound}
 use Rattle.state.proofs.Facts.{wellFormed-facts, gateOf-facts, gated-cases, gated-open}
 use Rattle.state.proofs.Keeps.{sound-open}
@@ -31,7 +32,6 @@ use Rattle.receive.specs.Take.{obeyed, taken}
 use Rattle.receive.proofs.Facts.{freed-fewer, repeatable-holds, data-taken}
 use Rattle.clock.specs.Look.{lookedOpen, looked}
 use Rattle.pair.specs.System.{System, swap, deliveredBy, takes, lookOf, looks, IsClock}
-use Rattle.state.specs.Timer.{onward}
 use Rattle.pair.specs.Round.{Enough, Carried, head, Carries, none, here, there, runs, dueAt, someRuns, someDue, Passes, stays, moves, Looks, nothing, sends-on, Round, round, other-first, Rounds, begin, next}
 use Rattle.pair.specs.Demand3.{Through, Alive, WithinRounds, Within24}
 use Rattle.pair.proofs.Line.{Line, data-next, ack-next, idle-next, Idle, by-size, by-sum, a-nak, line-taken, line-freed}

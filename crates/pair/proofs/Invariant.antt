@@ -23,8 +23,8 @@ use Rattle.state.proofs.Keeps.{changed, fresh-sound}
 use Rattle.send.specs.Repeat.{partOf, packetOf}
 use Rattle.send.specs.Submit.{sentFirst}
 use Rattle.send.proofs.Slots.{new-packet, old-packet, accepted-waits}
-use Rattle.receive.proofs.Keeps.{freed-sound, afterDelivery-sound}
 use Rattle.receive.specs.Steps.{freed, afterDelivery}
+use Rattle.receive.proofs.Keeps.{freed-sound, afterDelivery-sound}
 use Rattle.pair.specs.System.{queued, Side, System, swap, Harm, freshSide, IsClock}
 use Rattle.pair.specs.Demand3.{FirstSoManyOf}
 use Rattle.pair.proofs.Line.{Line, clear, line-taken, line-freed, line-mono, line-tail, line-harm, line-data, line-more}

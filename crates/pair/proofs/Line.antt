@@ -1,5 +1,6 @@
 -- What the queue towards an end may hold. Assumes nothing.
 use mathlib.Core.Path.{_≡_, sym, _∙_}
+use mathlib.Core.Bool.{false}
 use mathlib.Core.List.{List, [], _∷_, _++_}
 use mathlib.Core.Logic.{_⊎_, inl, inr}
 use Prim.Native.Nat.{ℕ, suc, _%_, _+_, _≤_, _<_, max}
@@ -9,7 +10,6 @@ use Rattle.frame.specs.declared.Heard.{Heard}
 use Rattle.frame.specs.declared.Heard.the-variants.{Size, Sum, Ack, Nak, Data}
 use Rattle.frame.specs.Steps.{heard, packetIn}
 use Rattle.pair.specs.System.{Harm, lost, damaged, later}
-use mathlib.Core.Bool.{false}
 
 -- a frame that neither frees nor delivers: damaged, or a NAK
 pub data Idle : Heard → Type 0 where

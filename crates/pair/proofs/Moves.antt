@@ -30,10 +30,10 @@ use Rattle.send.specs.Submit.{submitGate, sentFirst, packetAccepted, submitted}
 use Rattle.send.specs.Makers.{silent, ends, sendsAck, sendsRepeat}
 use Rattle.send.proofs.Facts.{Accepting, submitGate-facts, part-fits}
 use Rattle.send.proofs.Keeps.{sentFirst-sound}
-use Rattle.clock.specs.Look.{packetDue, acknowledgeDue, afterOldest, exhausted, served, acknowledgedIf, lookedOpen, looked, acknowledgedNow}
 use Rattle.receive.specs.Steps.{freed, repeatable, afterDelivery}
 use Rattle.receive.specs.Take.{obeyed, taken}
 use Rattle.receive.proofs.Facts.{repeatable-holds, data-taken}
+use Rattle.clock.specs.Look.{packetDue, acknowledgeDue, afterOldest, exhausted, served, acknowledgedIf, lookedOpen, looked, acknowledgedNow}
 use Rattle.clock.proofs.Facts.{due-waits}
 use Rattle.pair.specs.System.{System, swap, sentBy, takenBy, deliveredBy, leftBy, called, submits, takes, looks, acknowledges, Harm, IsClock, Move, submit, take-head, look, acknowledge, harm, Moment, start, here, there}
 use Rattle.pair.specs.Demand3.{FirstSoMany}

@@ -12,9 +12,9 @@ use Rattle.send.specs.Submit.{submitted}
 use Rattle.receive.specs.Take.{taken}
 use Rattle.clock.specs.Look.{looked}
 use Rattle.pair.specs.System.{lost, damaged, submit, take-head, harm, Moment, start, here, there}
+use Rattle.pair.specs.Run.{settings, buffer, slots, loanA, loanB, moment0, moment1, moment2, moment3, moment4, moment5, moment6, WorkedRun}
 use Rattle.pair.proofs.Timers.{moved, some-soon, end-soon, least, search-from}
 use Rattle.pair.proofs.Exist.{rounds-exist, led, a-round, emptied, emptied-by, stepped, watched, watched-by, blank}
-use Rattle.pair.specs.Run.{settings, buffer, slots, loanA, loanB, moment0, moment1, moment2, moment3, moment4, moment5, moment6, WorkedRun}
 
 reached : Moment settings moment6
 unfolding submitted taken freshOf put frameOf checksumOf inRange

@@ -18,8 +18,8 @@ use Rattle.state.specs.Gate.{After, gateOf}
 use Rattle.state.specs.Formed.{Open}
 use Rattle.state.proofs.Facts.{gated-open}
 use Rattle.send.specs.Repeat.{mayRepeat, Ready}
-use Rattle.send.proofs.Facts.{waiting-ready}
 use Rattle.send.specs.Makers.{silent, ends, sendsAck}
+use Rattle.send.proofs.Facts.{waiting-ready}
 use Rattle.receive.specs.Steps.{freed, repeatable, afterStep6, afterDelivery}
 use Rattle.receive.specs.Take.{repeatedOr, dataTaken, obeyed, taken}
 

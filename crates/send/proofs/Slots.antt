@@ -11,10 +11,10 @@ use lib.Seq.{getD-set-same, getD-set-other}
 use lib.Dec.{eqb}
 use Rattle.base.specs.Buffer.{put}
 use Rattle.base.proofs.Put.{put-in, put-before, put-behind}
+use Rattle.frame.specs.Bytes.{dataFrame}
 use Rattle.state.specs.declared.Link.{Link}
 use Rattle.state.specs.Bounds.{limitOf}
 use Rattle.state.specs.State.{lastCorrect, slotOf, lengthOf}
-use Rattle.frame.specs.Bytes.{dataFrame}
 use Rattle.send.specs.Repeat.{partOf, packetOf, again}
 use Rattle.send.specs.Makers.{sends, sendsRepeat}
 use Rattle.send.specs.Submit.{sentFirst, packetAccepted}
