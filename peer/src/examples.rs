@@ -9,7 +9,8 @@ use crate::checksum::checksum;
 use crate::frame::{hear, Heard};
 use crate::link::Outcome;
 use crate::script::{
-    cut_numbers, hex, join_numbers, numbers, parse, Command, Fields, Line, Lines, Rig, Said,
+    answer_lines, cut_numbers, hex, join_numbers, numbers, parse, Command, Ending, Fields, Line,
+    Rig, Said,
 };
 
 const ARROW: &[u8] = b" -> ";
@@ -35,23 +36,14 @@ impl Left<'_> {
 /// Reads examples and prints them with the right sides that are computed here. A last line
 /// without LF is printed without one.
 pub fn examples<R: BufRead, W: Write>(input: R, output: &mut W) -> io::Result<()> {
-    let mut lines = Lines::new(input);
     let mut rig = Rig::default();
     let mut scratch = Vec::new();
-    let mut text = Vec::new();
-    let mut number: u64 = 0;
-    while let Some(line) = lines.next()? {
-        number = number.saturating_add(1);
-        text.clear();
-        if work(&line, &mut rig, &mut scratch, &mut text).is_none() {
+    answer_lines(input, output, |line, number, text| {
+        if work(line, &mut rig, &mut scratch, text).is_none() {
             write!(text, "bad line {number}")?;
         }
-        if lines.ended() {
-            text.push(b'\n');
-        }
-        output.write_all(&text)?;
-    }
-    output.flush()
+        Ok(Ending::AsRead)
+    })
 }
 
 /// Adds one line as it should be. None for a bad line, which adds and changes nothing.

@@ -36,25 +36,48 @@ pub fn read<'a>(line: &Line<'_>, scratch: &'a mut Vec<u8>) -> Reading<'a> {
     }
 }
 
-/// Reads a script and prints what the rig prints.
-pub fn replay<R: BufRead, W: Write>(input: R, output: &mut W) -> io::Result<()> {
+/// Prints what `work` adds for each line of an input, which is told the line and its number.
+pub(crate) fn answer_lines<R, W, F>(input: R, output: &mut W, mut work: F) -> io::Result<()>
+where
+    R: BufRead,
+    W: Write,
+    F: FnMut(&Line<'_>, u64, &mut Vec<u8>) -> io::Result<Ending>,
+{
     let mut lines = Lines::new(input);
-    let mut rig = Rig::default();
-    let mut scratch = Vec::new();
     let mut text = Vec::new();
     let mut number: u64 = 0;
     while let Some(line) = lines.next()? {
         number = number.saturating_add(1);
         text.clear();
-        match read(&line, &mut scratch) {
-            Reading::Silent => {}
-            Reading::Bad => writeln!(text, "bad line {number}")?,
-            Reading::Do(command) => {
-                let said = rig.execute(&command);
-                print(&rig, &said, &mut text);
-            }
+        let ending = work(&line, number, &mut text)?;
+        if ending == Ending::AsRead && lines.ended() {
+            text.push(b'\n');
         }
         output.write_all(&text)?;
     }
     output.flush()
+}
+
+/// How what is printed for a line ends: by itself, or with LF where the line had one.
+#[derive(PartialEq, Eq)]
+pub(crate) enum Ending {
+    Own,
+    AsRead,
+}
+
+/// Reads a script and prints what the rig prints.
+pub fn replay<R: BufRead, W: Write>(input: R, output: &mut W) -> io::Result<()> {
+    let mut rig = Rig::default();
+    let mut scratch = Vec::new();
+    answer_lines(input, output, |line, number, text| {
+        match read(line, &mut scratch) {
+            Reading::Silent => {}
+            Reading::Bad => writeln!(text, "bad line {number}")?,
+            Reading::Do(command) => {
+                let said = rig.execute(&command);
+                print(&rig, &said, text);
+            }
+        }
+        Ok(Ending::Own)
+    })
 }

@@ -66,12 +66,11 @@ pub fn with_link(s: Side, link: Link) -> Side {
     }
 }
 
-// One more, where that is a number.
+// No count of a story comes near the largest number, and none need be shown to.
 pub fn more(n: usize) -> usize {
     std::num::wrapping_add_usize(n, 1)
 }
 
-// One less, where there is one.
 pub fn less(n: usize) -> usize {
     if n == 0 { 0 } else { n - 1 }
 }

@@ -286,7 +286,7 @@ fn take_some(
     k
 }
 
-// The first frames on their way to the end here arrive; one where no number is given.
+// The first frames on their way to the end here arrive, or none where there are not so many.
 pub fn carry(
     here: &mut Kept,
     there: &mut Kept,
@@ -296,11 +296,10 @@ pub fn carry(
     b: Bus,
     count: u64,
 ) -> Bus {
-    let wanted = if count == 0 { 1 } else { count };
-    if (b.here.queue as u64) < wanted {
+    if (b.here.queue as u64) < count {
         return tell_none(out, b);
     }
-    take_some(here, there, bytes, fresh, out, b, wanted as usize)
+    take_some(here, there, bytes, fresh, out, b, count as usize)
 }
 
 // ---- the line

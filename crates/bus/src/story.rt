@@ -131,7 +131,7 @@ fn on_line(
     let verb = o.verb;
     let v = o.fields.values;
     match verb {
-        Verb::Carry => moves::carry(here, there, bytes, fresh, out, b, v[0]),
+        Verb::Carry => moves::carry(here, there, bytes, fresh, out, b, times(v[0])),
         Verb::Lose => moves::lose(here, fresh, out, b, v[0]),
         Verb::Damage => moves::damage(here, bytes, fresh, out, b, v[0], v[1] as usize),
         _ => b,
@@ -175,6 +175,7 @@ fn show(desk: &Kept, chip: &Kept, fresh: &mut Fresh, out: &mut Output, b: Bus) -
     ends::turned(ending::show(chip, fresh, out, ends::turned(k)))
 }
 
+// A number of times that is not given is 1.
 fn times(n: u64) -> u64 {
     if n == 0 { 1 } else { n }
 }

@@ -4,7 +4,7 @@ use crate::lay::add;
 use crate::lay::add_digits;
 use frame::Heard;
 
-// A word, which ends with a space, and a number.
+// A number behind words; their space is theirs to bring.
 pub fn add_counted(out: &mut Output, at: usize, word: &[u8], number: u64) -> usize {
     let a = add(out, at, word);
     add_digits(out, a, number)
