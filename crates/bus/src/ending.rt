@@ -30,7 +30,7 @@ fn add_link(out: &mut Output, at: usize, l: Link) -> usize {
     let b = add_counted(out, a, b" next, expects ", of_small(l.expected));
     let c = add_counted(out, b, b", waiting packets: ", of_small(l.waiting));
     let d = add_if(out, c, l.acking, b", owes an acknowledgement");
-    let e = add_if(out, d, l.naked, b", has sent its nak");
+    let e = add_if(out, d, l.nakmark, b", has sent its nak");
     add_if(out, e, l.lost, b", link lost")
 }
 

@@ -78,8 +78,8 @@ pub fn less(n: usize) -> usize {
 fn no_settings() -> Settings {
     Settings {
         d: 0,
-        transmit: 0,
-        acknowledge: 0,
+        transtimeout: 0,
+        acktimeout: 0,
         window: 0,
         repeats: 0,
     }

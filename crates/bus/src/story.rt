@@ -29,8 +29,8 @@ use text::talk;
 fn settings_of(v: Values) -> Settings {
     Settings {
         d: middle(v[0]),
-        transmit: middle(v[2]),
-        acknowledge: middle(v[3]),
+        transtimeout: middle(v[2]),
+        acktimeout: middle(v[3]),
         window: small(v[1]),
         repeats: small(v[4]),
     }

@@ -31,12 +31,12 @@ fn packet_left(l: Link, n: u8, ms: u32) -> u32
     }
     let number = state::sent_before(l, n);
     let slot = slot_of(l.settings.window, number);
-    left_of(l.settings.transmit, l.starts[slot], ms)
+    left_of(l.settings.transtimeout, l.starts[slot], ms)
 }
 
 fn acknowledge_left(l: Link, ms: u32) -> u32 {
     if l.acking {
-        return left_of(l.settings.acknowledge, l.ackstart, ms);
+        return left_of(l.settings.acktimeout, l.ackstart, ms);
     }
     NEVER
 }

@@ -172,13 +172,18 @@ pub fn add_outcome(out: &mut Output, at: usize, before: Link, o: Outcome, frame:
 pub fn add_settings(out: &mut Output, at: usize, s: Settings) -> usize {
     let a = add_counted(out, at, b"D ", of_middle(s.d));
     let b = add_counted(out, a, b", window ", of_small(s.window));
-    let c = add_counted(out, b, b", a packet again after ", of_middle(s.transmit));
+    let c = add_counted(
+        out,
+        b,
+        b", a packet again after ",
+        of_middle(s.transtimeout),
+    );
     let d = add_counted(out, c, b" ms, at most ", of_small(s.repeats));
     let e = add_counted(
         out,
         d,
         b" times, an acknowledgement after ",
-        of_middle(s.acknowledge),
+        of_middle(s.acktimeout),
     );
     add(out, e, b" ms")
 }

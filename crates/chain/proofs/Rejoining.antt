@@ -15,7 +15,7 @@ use Rattle.base.proofs.Tests.{within-low, leb-same}
 use Rattle.chain.specs.declared.Joining.{Joining}
 use Rattle.chain.specs.Pctr.{pctrOf, whole, first, middle, last}
 use Rattle.chain.specs.Cut.{limitOk, longest, partSize, packetCount, chainAt, partAt, packetAt, packetsTo, cutGate, given, cutOut}
-use Rattle.chain.specs.Join.{freshJoining, joinGate, finishes, faulty, placeOf, joinedTo, chainGate, partAdded, joinedPart, joined}
+use Rattle.chain.specs.Join.{freshJoining, joinGate, finishes, faulty, placeOf, totalOf, chainGate, partAdded, partJoined, joined}
 use Rattle.chain.specs.Promises.{cutsTo, CutsAll, LimitsAgree, Sized, none, more, PacketsSized, Reader, messageIn, readOne, readAll, Idle, dones, Rejoined, RejoinsAll, NoneBefore}
 use Rattle.chain.proofs.Parts.{part-begins, parts-all}
 
@@ -78,18 +78,18 @@ packets-sized m message e = sized-first m (packetCount m (length message)) messa
 -- ---- joining one packet
 
 -- a packet that nothing stands against is joined: on channel 0, not secured, CHAIN one of the four
-joined-open : (m : ℕ) (j : Joining) (chain : ℕ) (part room : List ℕ) → limitOk m ≡ true → j .joined ≤ longest → longest ≤ length room
+joined-open : (m : ℕ) (j : Joining) (chain : ℕ) (part room : List ℕ) → limitOk m ≡ true → j .length ≤ longest → longest ≤ length room
     → 1 ≤ length part → length part + 1 ≤ m → chain ≤ 4 → faulty m (j .opened) chain (suc (length part)) ≡ false
-    → joinedTo j chain (suc (length part)) ≤ longest
+    → totalOf j chain (suc (length part)) ≤ longest
     → joined m j (pctrOf 0 chain ∷ part) room ≡ partAdded j (pctrOf 0 chain ∷ part) chain room
-unfolding joined joinGate joinedPart chainGate
+unfolding joined joinGate partJoined chainGate
 joined-open m j chain part room e small enough lo hi c ok total =
     let channel : (0 * 16 + chain) / 16 ≡ 0 = omega arith in
     let read : (0 * 16 + chain) % 8 ≡ chain = omega arith in
     let plain : (0 * 16 + chain) / 8 % 2 ≡ 0 = omega arith in
     rw (
       e,
-      le-leb (j .joined) longest small,
+      le-leb (j .length) longest small,
       le-ltb (length room) longest enough,
       le-leb 1 (suc (length part)) (omega arith),
       le-leb (suc (length part)) m (omega arith),
@@ -98,13 +98,13 @@ joined-open m j chain part room e small enough lo hi c ok total =
       plain,
       ne-eqb chain 7 (λ q. omega arith),
       ok,
-      le-ltb longest (joinedTo j chain (suc (length part))) total,
+      le-ltb longest (totalOf j chain (suc (length part))) total,
     )
 
 -- the state after the first k packets
 abbrev stateAt : ℕ → Reader → ℕ → Joining
 stateAt m r zero = r .state
-stateAt m r (suc k) = record { joined = suc k * partSize m; opened = true }
+stateAt m r (suc k) = record { length = suc k * partSize m; opened = true }
 
 -- after the first k packets of the message, and before the last
 record Reading (m : ℕ) (message : List ℕ) (k : ℕ) (r s : Reader) : Type 0 where
@@ -115,11 +115,11 @@ record Reading (m : ℕ) (message : List ℕ) (k : ℕ) (r s : Reader) : Type 0 
   bytes : take (k * partSize m) (s .room) ≡ take (k * partSize m) message
 
 -- what one more packet, with the part from k × (m − 1) on, does
-read-one : (m k chain : ℕ) (message : List ℕ) (s : Reader) (part : List ℕ) → limitOk m ≡ true → s .state .joined ≤ longest → longest ≤ length (s .room)
+read-one : (m k chain : ℕ) (message : List ℕ) (s : Reader) (part : List ℕ) → limitOk m ≡ true → s .state .length ≤ longest → longest ≤ length (s .room)
     → 1 ≤ length part → length part + 1 ≤ m → chain ≤ 4 → faulty m (s .state .opened) chain (suc (length part)) ≡ false
     → placeOf (s .state) chain ≡ k * partSize m → k * partSize m + length part ≤ longest
     → readOne m s (pctrOf 0 chain ∷ part) ≡ record {
-      state = cond (finishes chain) freshJoining (record { joined = k * partSize m + length part; opened = true });
+      state = cond (finishes chain) freshJoining (record { length = k * partSize m + length part; opened = true });
       room = put (s .room) (k * partSize m) part;
       answers = s .answers ++ (done ∷ []);
       messages = s .messages ++ messageIn (cond (finishes chain) (k * partSize m + length part) 0) (put (s .room) (k * partSize m) part);
@@ -127,7 +127,7 @@ read-one : (m k chain : ℕ) (message : List ℕ) (s : Reader) (part : List ℕ)
 read-one m k chain message s part e small enough lo hi c ok place total =
     let at : ℕ = k * partSize m in
     let size : suc (length part) - 1 ≡ length part = omega arith in
-    let to : joinedTo (s .state) chain (suc (length part)) ≡ at + length part = rw (place, size) in
+    let to : totalOf (s .state) chain (suc (length part)) ≡ at + length part = rw (place, size) in
     let j : joined m (s .state) (pctrOf 0 chain ∷ part) (s .room) ≡ partAdded (s .state) (pctrOf 0 chain ∷ part) chain (s .room) =
     joined-open m (s .state) chain part (s .room) e small enough lo hi c ok (rw to total) in
     rw (j, to, place)
@@ -175,7 +175,7 @@ put-part-bytes p k room message part e h b =
 
 -- what is read of a message with a part that is not the last
 read-on : (m k chain : ℕ) (message : List ℕ) (r s : Reader) → limitOk m ≡ true → length message ≤ longest → Idle r → Reading m message k r s
-    → suc k < packetCount m (length message) → s .state .joined ≤ longest → chain ≤ 4 → finishes chain ≡ false
+    → suc k < packetCount m (length message) → s .state .length ≤ longest → chain ≤ 4 → finishes chain ≡ false
     → faulty m (s .state .opened) chain m ≡ false → placeOf (s .state) chain ≡ k * partSize m
     → Reading m message (suc k) r (readOne m s (pctrOf 0 chain ∷ partAt m message k))
 read-on m k chain message r s e hi idle ih c small c4 f ok place =
@@ -224,7 +224,7 @@ none-before m message r k e lo hi idle c =
 
 -- the last packet gives the message
 read-last : (m k chain : ℕ) (message : List ℕ) (r s : Reader) → limitOk m ≡ true → length message ≤ longest → Idle r → Reading m message k r s
-    → suc k ≡ packetCount m (length message) → s .state .joined ≤ longest → chain ≤ 4 → finishes chain ≡ true
+    → suc k ≡ packetCount m (length message) → s .state .length ≤ longest → chain ≤ 4 → finishes chain ≡ true
     → ((size : ℕ) → 2 ≤ size → faulty m (s .state .opened) chain size ≡ false) → placeOf (s .state) chain ≡ k * partSize m
     → Rejoined m message r (readOne m s (pctrOf 0 chain ∷ partAt m message k))
 read-last m k chain message r s e hi idle ih c small c4 f ok place =

@@ -15,7 +15,7 @@ use Rattle.chain.specs.Cut.{limitOk, longest}
 -- Document 01 names no state to begin with; it is the one after a finished or a dropped chain, in which "none is open and the joined length
 -- is 0". "Chaining has two calls": what gives this state is no third one.
 abbrev pub freshJoining : Joining
-freshJoining = record { joined = 0; opened = false }
+freshJoining = record { length = 0; opened = false }
 
 -- what join leaves: what it tells, and every byte of the room
 pub record Joins : Type 0 where
@@ -53,7 +53,7 @@ refusal j answer = record {
 -- not 0, 11". "The slot buffer needs .., the joining room 4,096."
 unfoldable pub joinGate : ℕ → Joining → List ℕ → ℕ → ℕ
 joinGate m j packet room =
-    firstOf (cond (limitOk m && leb (j .joined) longest) done outOfRange)
+    firstOf (cond (limitOk m && leb (j .length) longest) done outOfRange)
     (firstOf (cond (ltb room longest) shortBuffer done)
     (firstOf (cond (within 1 (length packet) m) done packetSize) (cond (eqb (channelOf (getD packet 0 0)) 0) done otherChannel)))
 
@@ -81,11 +81,11 @@ faulty m opened chain size =
 
 -- "The part of a 000 or 001 goes to the start of the room, that of a 010 or 100 behind what is joined."
 abbrev pub placeOf : Joining → ℕ → ℕ
-placeOf j chain = cond (begins chain) 0 (j .joined)
+placeOf j chain = cond (begins chain) 0 (j .length)
 
 -- of the packet's bytes all but PCTR are the message's
-abbrev pub joinedTo : Joining → ℕ → ℕ → ℕ
-joinedTo j chain size = placeOf j chain + (size - 1)
+abbrev pub totalOf : Joining → ℕ → ℕ → ℕ
+totalOf j chain size = placeOf j chain + (size - 1)
 
 -- "CHAIN 111 with one byte, 15"; then 10; "secured bit set on 000 or 001, 12 (ignored on others, section 6.1); total above 4,096, 14"
 unfoldable pub chainGate : ℕ → Joining → ℕ → ℕ → ℕ
@@ -94,14 +94,14 @@ chainGate m j pctr size =
     firstOf (cond (eqb (chainOf pctr) fault && eqb size 1) faultTold done)
     (firstOf (cond (faulty m (j .opened) (chainOf pctr) size) chainFault done)
     (firstOf (cond (securedOf pctr && begins (chainOf pctr)) securedPacket done)
-    (cond (ltb longest (joinedTo j (chainOf pctr) size)) tooLong done)))
+    (cond (ltb longest (totalOf j (chainOf pctr) size)) tooLong done)))
 
 -- "After an accepted 000 or 100 the answer tells the message's length (0 otherwise), and, as after a dropped chain, none is open and the joined
 -- length is 0."
 abbrev pub partTold : Joining → ℕ → ℕ → Joined
 partTold j chain size = record {
-  state = cond (finishes chain) freshJoining (record { joined = joinedTo j chain size; opened = true });
-  length = cond (finishes chain) (joinedTo j chain size) 0;
+  state = cond (finishes chain) freshJoining (record { length = totalOf j chain size; opened = true });
+  length = cond (finishes chain) (totalOf j chain size) 0;
   answer = done;
   fault = 0;
 }
@@ -109,16 +109,16 @@ partTold j chain size = record {
 abbrev pub partAdded : Joining → List ℕ → ℕ → List ℕ → Joins
 partAdded j packet chain room = joins (partTold j chain (length packet)) (put room (placeOf j chain) (drop 1 packet))
 
-unfoldable pub joinedPart : ℕ → Joining → List ℕ → List ℕ → Joins
+unfoldable pub partJoined : ℕ → Joining → List ℕ → List ℕ → Joins
 unfolding chainGate
-joinedPart m j packet room =
+partJoined m j packet room =
     let answer : ℕ = chainGate m j (getD packet 0 0) (length packet) in
     cond (eqb answer done) (partAdded j packet (chainOf (getD packet 0 0)) room) (joins (refusal j answer) room)
 
 -- ---- the call
 
 unfoldable pub joined : ℕ → Joining → List ℕ → List ℕ → Joins
-unfolding joinGate joinedPart
+unfolding joinGate partJoined
 joined m j packet room =
     let answer : ℕ = joinGate m j packet (length room) in
-    cond (eqb answer done) (joinedPart m j packet room) (joins (refusal j answer) room)
+    cond (eqb answer done) (partJoined m j packet room) (joins (refusal j answer) room)

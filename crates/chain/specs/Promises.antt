@@ -71,7 +71,7 @@ readAll m r (packet ∷ packets) = readAll m (readOne m r packet) packets
 -- no chain open, a joined length of at most 4,096, and a room that is long enough
 pub record Idle (r : Reader) : Type 0 where
   pub closed : r .state .opened ≡ false
-  pub small : r .state .joined ≤ longest
+  pub small : r .state .length ≤ longest
   pub enough : longest ≤ length (r .room)
 
 -- so many answers 0
@@ -118,4 +118,4 @@ JoinSettled =
 
 -- Serves demand 1, by which no caller has to check first: a state that join left is not refused for "a joined length above 4,096".
 abbrev pub JoinKept : Type 0
-JoinKept = (m : ℕ) (j : Joining) (packet room : List ℕ) → j .joined ≤ longest → joined m j packet room .told .state .joined ≤ longest
+JoinKept = (m : ℕ) (j : Joining) (packet room : List ℕ) → j .length ≤ longest → joined m j packet room .told .state .length ≤ longest

@@ -8,7 +8,7 @@ ghost use lib.ListN.{length};
 ghost use Rattle.base.specs.Buffer.{put};
 ghost use Rattle.chain.specs.Pctr.{pctrOf};
 ghost use Rattle.chain.specs.Cut.{limitOk, leastOf, packetCount, chainAt, cutGate, cutting, given, cutOut};
-ghost use Rattle.chain.specs.Join.{freshJoining, joins, dropsChain, faultOf, refusal, joinGate, faulty, placeOf, joinedTo, chainGate, partTold, partAdded, joinedPart, joined};
+ghost use Rattle.chain.specs.Join.{freshJoining, joins, dropsChain, faultOf, refusal, joinGate, faulty, placeOf, totalOf, chainGate, partTold, partAdded, partJoined, joined};
 
 // What cut tells of a packet.
 pub struct Piece {
@@ -19,7 +19,7 @@ pub struct Piece {
 
 // What is kept of a message whose packets are being joined.
 pub struct Joining {
-    pub joined: u16,
+    pub length: u16,
     pub opened: bool,
 }
 
@@ -158,7 +158,7 @@ pub fn fresh_joining() -> Joining
     ensures { λ r. ⌜ r ≡ freshJoining ⌝ }
 {
     Joining {
-        joined: 0,
+        length: 0,
         opened: false,
     }
 }
@@ -198,7 +198,7 @@ fn refuse(j: Joining, answer: u8) -> Joined
 fn join_gate(m: u16, j: Joining, packet: &[u8], room: usize) -> u8
     ensures { λ r. ⌜ r ≡ joinGate m j (now (packet .entry)) room ⌝ }
 {
-    if is_limit(m) & (j.joined <= LONGEST as u16) {
+    if is_limit(m) & (j.length <= LONGEST as u16) {
         if room < LONGEST {
             return answer::SHORT_BUFFER;
         }
@@ -230,7 +230,7 @@ fn is_faulty(m: u16, opened: bool, chain: u8, size: usize) -> bool
 fn place_of(j: Joining, chain: u8) -> usize
     ensures { λ r. ⌜ (r ≡ placeOf j chain) × (r < 65536) ⌝ }
 {
-    if chain <= FIRST { 0 } else { j.joined as usize }
+    if chain <= FIRST { 0 } else { j.length as usize }
 }
 
 fn chain_gate(m: u16, j: Joining, pctr: u8, size: usize) -> u8
@@ -254,7 +254,7 @@ fn chain_gate(m: u16, j: Joining, pctr: u8, size: usize) -> u8
 }
 
 fn tell(j: Joining, chain: u8, size: usize) -> Joined
-    requires { ⌜ joinedTo j chain size ≤ 4096 ⌝ }
+    requires { ⌜ totalOf j chain size ≤ 4096 ⌝ }
     requires { ⌜ 1 ≤ size ⌝ }
     ensures { λ r. ⌜ r ≡ partTold j chain size ⌝ }
 {
@@ -269,7 +269,7 @@ fn tell(j: Joining, chain: u8, size: usize) -> Joined
         };
     }
     let state = Joining {
-        joined: total,
+        length: total,
         opened: true,
     };
     Joined {
@@ -281,7 +281,7 @@ fn tell(j: Joining, chain: u8, size: usize) -> Joined
 }
 
 fn add_part(j: Joining, packet: &[u8], chain: u8, room: &mut [u8]) -> Joined
-    requires { ⌜ (1 ≤ length (now packet)) × (joinedTo j chain (length (now packet)) ≤ 4096) × (4096 ≤ length (now room)) ⌝ }
+    requires { ⌜ (1 ≤ length (now packet)) × (totalOf j chain (length (now packet)) ≤ 4096) × (4096 ≤ length (now room)) ⌝ }
     ensures { λ r. ⌜ joins r (now (room .exit)) ≡ partAdded j (now (packet .entry)) chain (now (room .entry)) ⌝ }
 {
     buffer::copy_at(room, place_of(j, chain), &packet[1..]);
@@ -290,7 +290,7 @@ fn add_part(j: Joining, packet: &[u8], chain: u8, room: &mut [u8]) -> Joined
 
 fn join_part(m: u16, j: Joining, packet: &[u8], room: &mut [u8]) -> Joined
     requires { ⌜ (1 ≤ length (now packet)) × (length (now packet) ≤ 1019) × (4096 ≤ length (now room)) ⌝ }
-    ensures { λ r. ⌜ joins r (now (room .exit)) ≡ joinedPart m j (now (packet .entry)) (now (room .entry)) ⌝ }
+    ensures { λ r. ⌜ joins r (now (room .exit)) ≡ partJoined m j (now (packet .entry)) (now (room .entry)) ⌝ }
 {
     let pctr = packet[0];
     let refusal = chain_gate(m, j, pctr, packet.len());

@@ -15,7 +15,7 @@ use Rattle.clock.specs.Look.{packetDue}
 
 -- a due packet waits
 pub due-waits : (l : Link) (n ms : ℕ) → packetDue l n ms ≡ true → n < l .waiting
-due-waits l n ms e = ltb-true n (l .waiting) (and-left (ltb n (l .waiting)) (due (l .settings .transmit) (startOf l (sentBefore l n)) ms) e)
+due-waits l n ms e = ltb-true n (l .waiting) (and-left (ltb n (l .waiting)) (due (l .settings .transtimeout) (startOf l (sentBefore l n)) ms) e)
 
 -- so it can be repeated if it may
 pub due-ready : (l : Link) (n ms number slots frame : ℕ) → Open l slots frame → packetDue l n ms ≡ true → number ≡ sentBefore l n

@@ -12,18 +12,18 @@ use Rattle.state.specs.Gate.{After, gateOf}
 use Rattle.state.specs.Formed.{Sound}
 use Rattle.state.proofs.Keeps.{marked-sound, gated-sound}
 use Rattle.send.specs.Repeat.{mayRepeat}
-use Rattle.send.specs.Makers.{ends, sendsRepeat}
-use Rattle.send.proofs.Keeps.{again-sound, quiet-sound}
+use Rattle.send.specs.Makers.{concluded, sendsRepeat}
+use Rattle.send.proofs.Keeps.{again-sound, ackStopped-sound}
 use Rattle.clock.specs.Look.{packetDue, acknowledgeDue, afterOldest, exhausted, served, acknowledgedIf, lookedOpen, looked, acknowledgedNow}
 
 served-sound : (l : Link) (slots frame : List ℕ) (ms number : ℕ) → Sound l → Sound (served l slots frame ms number .told .state)
 served-sound l slots frame ms number s =
     cond-cases (λ (a : After Outcome). Sound (a .told .state)) (mayRepeat l number)
-    (ends (sendsRepeat l slots frame ms number) done 0 slots) (exhausted l slots frame)
-    (λ e. again-sound l number ms s e) (λ e. marked-sound l (l .ackstart) (l .acking) (l .naked) true s)
+    (concluded (sendsRepeat l slots frame ms number) done 0 slots) (exhausted l slots frame)
+    (λ e. again-sound l number ms s e) (λ e. marked-sound l (l .ackstart) (l .acking) (l .nakmark) true s)
 
 acknowledgedIf-sound : (owed : Bool) (l : Link) (slots frame : List ℕ) → Sound l → Sound (acknowledgedIf owed l slots frame .told .state)
-acknowledgedIf-sound true l slots frame s = quiet-sound l s
+acknowledgedIf-sound true l slots frame s = ackStopped-sound l s
 acknowledgedIf-sound false l slots frame s = s
 
 lookedOpen-sound : (l : Link) (slots frame : List ℕ) (ms : ℕ) → Sound l → Sound (lookedOpen l slots frame ms .told .state)

@@ -12,17 +12,17 @@ use Rattle.state.specs.State.{sentBefore, startOf}
 use Rattle.state.specs.Gate.{After, after, gated, gateOf, only}
 use Rattle.state.specs.Timer.{due}
 use Rattle.send.specs.Repeat.{mayRepeat}
-use Rattle.send.specs.Makers.{ends, silent, sendsRepeat, sendsAck}
+use Rattle.send.specs.Makers.{concluded, silent, sendsRepeat, sendsAck}
 use Rattle.clock.specs.declared.Looked.{Looked}
 
 -- ---- timers
 
 -- the timer of the packet that n were sent after: it runs while the packet waits
 abbrev pub packetDue : Link → ℕ → ℕ → Bool
-packetDue l n ms = ltb n (l .waiting) && due (l .settings .transmit) (startOf l (sentBefore l n)) ms
+packetDue l n ms = ltb n (l .waiting) && due (l .settings .transtimeout) (startOf l (sentBefore l n)) ms
 
 abbrev pub acknowledgeDue : Link → ℕ → Bool
-acknowledgeDue l ms = l .acking && due (l .settings .acknowledge) (l .ackstart) ms
+acknowledgeDue l ms = l .acking && due (l .settings .acktimeout) (l .ackstart) ms
 
 -- how many packets were sent after the oldest waiting one (0 where none waits)
 abbrev pub afterOldest : Link → ℕ
@@ -37,13 +37,13 @@ exhausted l slots frame = after (only (withLost l true) linkLost) slots frame
 -- "serves the oldest waiting packet if due": by a repeat, while TRANS_REPEAT leaves one
 abbrev pub served : Link → List ℕ → List ℕ → ℕ → ℕ → After Outcome
 served l slots frame ms number =
-    cond (mayRepeat l number) (ends (sendsRepeat l slots frame ms number) done 0 slots) (exhausted l slots frame)
+    cond (mayRepeat l number) (concluded (sendsRepeat l slots frame ms number) done 0 slots) (exhausted l slots frame)
 
 -- ---- the calls
 
 -- a control ACK where one is owed, "else sends nothing"
 abbrev pub acknowledgedIf : Bool → Link → List ℕ → List ℕ → After Outcome
-acknowledgedIf owed l slots frame = ends (cond owed (sendsAck l frame) (silent l frame)) done 0 slots
+acknowledgedIf owed l slots frame = concluded (cond owed (sendsAck l frame) (silent l frame)) done 0 slots
 
 -- "Looking at the clock serves the oldest waiting packet if due, else the newer, else the acknowledge timer (a control ACK, timer stopped),
 -- else sends nothing."

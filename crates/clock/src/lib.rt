@@ -25,13 +25,13 @@ fn is_packet_due(l: Link, n: u8, ms: u32) -> bool
 {
     let slot = state::slot_of(l, state::sent_before(l, n));
     let start = l.starts[slot];
-    (n < l.waiting) & state::is_due(l.settings.transmit, start, ms)
+    (n < l.waiting) & state::is_due(l.settings.transtimeout, start, ms)
 }
 
 fn is_acknowledge_due(l: Link, ms: u32) -> bool
     ensures { λ r. ⌜ r ≡ acknowledgeDue l ms ⌝ }
 {
-    l.acking & state::is_due(l.settings.acknowledge, l.ackstart, ms)
+    l.acking & state::is_due(l.settings.acktimeout, l.ackstart, ms)
 }
 
 fn after_oldest(l: Link) -> u8
@@ -58,7 +58,7 @@ fn serve(l: Link, slots: &[u8], frame: &mut [u8], ms: u32, number: u8) -> Outcom
 {
     if send::may_repeat(l, number) {
         let sent = send::repeat(l, slots, frame, ms, number);
-        return send::end(sent, answer::DONE, 0);
+        return send::conclude(sent, answer::DONE, 0);
     }
     lose(l)
 }
@@ -71,7 +71,7 @@ fn acknowledge_if(l: Link, slots: &[u8], frame: &mut [u8], owed: bool) -> Outcom
 {
     if owed {
         let sent = send::send_ack(l, frame);
-        return send::end(sent, answer::DONE, 0);
+        return send::conclude(sent, answer::DONE, 0);
     }
     state::answer_only(l, answer::DONE)
 }

@@ -18,15 +18,15 @@ use Rattle.state.specs.Gate.{After, after}
 use Rattle.state.specs.Formed.{Formed, Sound}
 use Rattle.state.proofs.Facts.{inRange-facts, wellFormed-facts}
 use Rattle.state.proofs.Keeps.{fresh-sound, changed-sound, sound-open}
-use Rattle.receive.specs.Take.{obeyed, taken}
-use Rattle.receive.proofs.Facts.{taken-open}
+use Rattle.receive.specs.Take.{obeyed, frameTaken}
+use Rattle.receive.proofs.Facts.{frameTaken-open}
 use Rattle.examples.specs.Table.{End, example6Taken, delivered0, told, Table}
 
 -- an end of the table that is not lost hears the frame
 opened : (e : End) (l : Link) (ms : ℕ) (received : List ℕ) → Sound l → l .lost ≡ false → l .settings ≡ e .settings
-    → taken l (e .slots) (e .frame) ms received ≡ obeyed l (e .slots) (e .frame) ms (heard (l .settings .d) received)
+    → frameTaken l (e .slots) (e .frame) ms received ≡ obeyed l (e .slots) (e .frame) ms (heard (l .settings .format) received)
 opened e l ms received s alive same =
-    taken-open l (e .slots) (e .frame) ms received
+    frameTaken-open l (e .slots) (e .frame) ms received
     (sound-open l (length (e .slots)) (length (e .frame)) s alive (rw same (e .slots-room)) (rw same (e .frame-room)))
 
 fresh-end : (e : End) → Sound (freshOf (e .settings))
@@ -38,11 +38,11 @@ unfolding freshOf
 after-example8 e =
     let s : Sound (freshOf (e .settings)) = fresh-end e in
     let f : Formed (freshOf (e .settings)) = wellFormed-facts (freshOf (e .settings)) (s .formed) in
-    changed-sound (freshOf (e .settings)) (0 ∷ 0 ∷ []) (0 ∷ 0 ∷ []) (e .ms) 1 0 true false false s refl refl (omega arith) (omega arith) (f .counts)
+    changed-sound (freshOf (e .settings)) (0 ∷ 0 ∷ []) (0 ∷ 0 ∷ []) (e .ms) 1 0 true false false s refl refl (omega arith) (omega arith) (f .repeated)
 
 -- D is at least 16
-longer : (e : End) (size : ℕ) → size ≤ 16 → ltb (e .settings .d) size ≡ false
-longer e size h = le-ltb (e .settings .d) size (omega (arith, inRange-facts (e .settings) (e .range) .d-lo))
+longer : (e : End) (size : ℕ) → size ≤ 16 → ltb (e .settings .format) size ≡ false
+longer e size h = le-ltb (e .settings .format) size (omega (arith, inRange-facts (e .settings) (e .range) .d-lo))
 
 -- example 6's frame
 abbrev six : List ℕ
@@ -53,7 +53,7 @@ unfolding checksumOf frameOf sealed freshOf heard judged obeyed
 delivered e = opened e (freshOf (e .settings)) (e .ms) six (fresh-end e) refl refl ∙ rw (longer e 6 (omega arith))
 
 abbrev second : ℕ → After Outcome → After Outcome
-second later a = taken (a .told .state) (a .slots) (a .frame) later six
+second later a = frameTaken (a .told .state) (a .slots) (a .frame) later six
 
 pub shown : Table
 unfolding checksumOf frameOf sealed freshOf heard judged obeyed

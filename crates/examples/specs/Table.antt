@@ -14,11 +14,11 @@ use Rattle.state.specs.declared.Settings.{Settings}
 use Rattle.state.specs.declared.Link.{Link}
 use Rattle.state.specs.declared.Outcome.{Outcome}
 use Rattle.state.specs.Bounds.{inRange, slotsNeed, frameNeed}
-use Rattle.state.specs.Fields.{withAckstart, withExpected, withAcking, withNaked}
+use Rattle.state.specs.Fields.{withAckstart, withExpected, withAcking, withNakmark}
 use Rattle.state.specs.State.{freshOf}
 use Rattle.state.specs.Gate.{After, after}
 use Rattle.state.specs.Timer.{elapsed}
-use Rattle.receive.specs.Take.{taken}
+use Rattle.receive.specs.Take.{frameTaken}
 use Rattle.chain.specs.Cut.{packetsOf}
 
 -- a fresh end with any settings in range and buffers that are long enough, at any millisecond
@@ -33,7 +33,7 @@ pub record End : Type 0 where
 
 -- what example 8 leaves, by the rule ..
 abbrev pub example6Taken : End → After Outcome
-example6Taken e = taken (freshOf (e .settings)) (e .slots) (e .frame) (e .ms) (0x03 ∷ 0x00 ∷ 0x01 ∷ 0x00 ∷ 0x15 ∷ 0x3C ∷ [])
+example6Taken e = frameTaken (freshOf (e .settings)) (e .slots) (e .frame) (e .ms) (0x03 ∷ 0x00 ∷ 0x01 ∷ 0x00 ∷ 0x15 ∷ 0x3C ∷ [])
 
 -- .. and its state, written out
 abbrev pub delivered0 : End → Link
@@ -61,13 +61,13 @@ pub record Table : Type 0 where
   -- .. and as it is read: not step 1 refuses them, which answers 6 too, but step 4
   pub example7-step4 : (d : ℕ) → 5 ≤ d → heard d (0x00 ∷ 0x00 ∷ 0x00 ∷ 0x00 ∷ 0x00 ∷ []) ≡ Length
   -- "a fresh end answers 6 and sends example 4's frame."
-  pub example7 : (e : End) → taken (freshOf (e .settings)) (e .slots) (e .frame) (e .ms) (0x00 ∷ 0x00 ∷ 0x00 ∷ 0x00 ∷ 0x00 ∷ [])
-      ≡ after (told (withNaked (freshOf (e .settings)) true) badFrame 5 0) (e .slots) (put (e .frame) 0 (0xA0 ∷ 0x00 ∷ 0x00 ∷ 0xD7 ∷ 0x0F ∷ []))
+  pub example7 : (e : End) → frameTaken (freshOf (e .settings)) (e .slots) (e .frame) (e .ms) (0x00 ∷ 0x00 ∷ 0x00 ∷ 0x00 ∷ 0x00 ∷ [])
+      ≡ after (told (withNakmark (freshOf (e .settings)) true) badFrame 5 0) (e .slots) (put (e .frame) 0 (0xA0 ∷ 0x00 ∷ 0x00 ∷ 0xD7 ∷ 0x0F ∷ []))
   -- "Example 6 at a fresh end is delivered."
   pub example8 : (e : End) → example6Taken e ≡ after (told (delivered0 e) done 0 1) (e .slots) (e .frame)
   pub example8-packet : (e : End) → packetIn (0x03 ∷ 0x00 ∷ 0x01 ∷ 0x00 ∷ 0x15 ∷ 0x3C ∷ []) (example6Taken e .told .delivered) ≡ 0x00 ∷ []
   -- "The same again: 9, and example 2's frame goes out.": at any millisecond, with all as example 8 left it
-  pub example9 : (e : End) (later : ℕ) → taken (example6Taken e .told .state) (example6Taken e .slots) (example6Taken e .frame) later
+  pub example9 : (e : End) (later : ℕ) → frameTaken (example6Taken e .told .state) (example6Taken e .slots) (example6Taken e .frame) later
       (0x03 ∷ 0x00 ∷ 0x01 ∷ 0x00 ∷ 0x15 ∷ 0x3C ∷ [])
       ≡ after (told (withAcking (delivered0 e) false) unexpected 5 0) (e .slots) (put (e .frame) 0 (0x80 ∷ 0x00 ∷ 0x00 ∷ 0xEC ∷ 0x0C ∷ []))
   -- "m = 11: 10 bytes make one packet."

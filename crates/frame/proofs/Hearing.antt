@@ -11,6 +11,7 @@ use lib.Seq.{drop-cons, take-append-seam, drop-append-seam}
 use lib.Dec.{eqb, ltb}
 use Rattle.base.proofs.Tests.{or-right-false, cond-cases}
 use Rattle.fcs.specs.Checksum.{checksumOf}
+use Rattle.frame.specs.declared.Format.{Format}
 use Rattle.frame.specs.declared.Heard.{Heard}
 use Rattle.frame.specs.declared.Heard.the-variants.{Size, Sum, Code, ControlSize, Length, Reset, Ack, Nak, Data}
 use Rattle.frame.specs.Bytes.{lenBytes, fcsBytes, sealed, frameOf, resetFrame}
@@ -24,31 +25,31 @@ two : (x : List ℕ) (at : ℕ) → at + 2 ≤ length x → take 2 (drop at x) �
 two x at h = rw (drop-cons x at 0 (omega arith), drop-cons x (suc at) 0 (omega arith), add-one)
 
 -- two bytes compared one by one
-pub fcsAt-read : (x right : List ℕ) (at sum : ℕ) → at + 2 ≤ length x → sum ≡ checksumOf (take at x) → right ≡ fcsBytes sum
-    → (eqb (getD x at 0) (getD right 0 0) && eqb (getD x (at + 1) 0) (getD right 1 0)) ≡ fcsAt at x
+pub fcsAt-read : (format : Format) (x right : List ℕ) (at sum : ℕ) → at + 2 ≤ length x → sum ≡ checksumOf (take at x) → right ≡ fcsBytes format sum
+    → (eqb (getD x at 0) (getD right 0 0) && eqb (getD x (at + 1) 0) (getD right 1 0)) ≡ fcsAt format at x
 unfolding fcsAt
-fcsAt-read x right at sum h es er = rw (two x at h, er, es, and-true)
+fcsAt-read format x right at sum h es er = rw (two x at h, er, es, and-true)
 
 sameBytes-refl : (s : List ℕ) → sameBytes s s ≡ true
 sameBytes-refl [] = refl
 sameBytes-refl (a ∷ s) = rw (eq-eqb a a refl) (sameBytes-refl s)
 
-pub fcsAt-sealed : (covered : List ℕ) → fcsAt (length covered) (sealed covered) ≡ true
+pub fcsAt-sealed : (format : Format) (covered : List ℕ) → fcsAt format (length covered) (sealed format covered) ≡ true
 unfolding fcsAt sealed
-fcsAt-sealed covered =
-    rw (take-append-seam covered (fcsBytes (checksumOf covered)), drop-append-seam covered (fcsBytes (checksumOf covered)))
-    (sameBytes-refl (fcsBytes (checksumOf covered)))
+fcsAt-sealed format covered =
+    rw (take-append-seam covered (fcsBytes format (checksumOf covered)), drop-append-seam covered (fcsBytes format (checksumOf covered)))
+    (sameBytes-refl (fcsBytes format (checksumOf covered)))
 
 -- a whole frame within D passes step 1, and its FCTR and LEN are read back
-pub heard-framed : (d fctr : ℕ) (packet : List ℕ) → length packet + 5 ≤ d
-    → heard d (frameOf fctr packet) ≡ judged fctr (length packet) (length packet + 5)
+pub heard-framed : (format : Format) (fctr : ℕ) (packet : List ℕ) → length packet + 5 ≤ format .d
+    → heard format (frameOf format fctr packet) ≡ judged fctr (length packet) (length packet + 5)
 unfolding heard frameOf
-heard-framed d fctr packet h =
+heard-framed format fctr packet h =
     let covered : List ℕ = fctr ∷ (lenBytes (length packet) ++ packet) in
-    let size : length (sealed covered) ≡ length packet + 5 = frameOf-length fctr packet in
-    let seam : length (sealed covered) - 2 ≡ length covered = omega (arith, sealed-length covered) in
+    let size : length (sealed format covered) ≡ length packet + 5 = frameOf-length format fctr packet in
+    let seam : length (sealed format covered) - 2 ≡ length covered = omega (arith, sealed-length format covered) in
     let read : length packet / 256 * 256 + length packet % 256 ≡ length packet = omega arith in
-    rw (le-ltb (length (sealed covered)) 5 (omega arith), le-ltb d (length (sealed covered)) (omega arith), seam, fcsAt-sealed covered, size)
+    rw (le-ltb (length (sealed format covered)) 5 (omega arith), le-ltb (format .d) (length (sealed format covered)) (omega arith), seam, fcsAt-sealed format covered, size)
     (ap (λ (len : ℕ). judged fctr len (length packet + 5)) read)
 
 -- ---- steps 2 to 4
@@ -82,8 +83,8 @@ four P p0 p1 p2 p3 (suc (suc (suc (suc k)))) h = absurd (omega arith)
 -- ---- the promises
 
 pub data-heard : DataHeard
-data-heard d number acknowledged packet hn ha hl h =
-    heard-framed d (number * 4 + acknowledged) packet h ∙ judged-data number acknowledged (length packet) hn ha hl
+data-heard format number acknowledged packet hn ha hl h =
+    heard-framed format (number * 4 + acknowledged) packet h ∙ judged-data number acknowledged (length packet) hn ha hl
 
 -- four control codes in a row that are judged so are heard so
 control-heard : (code : ℕ) (says : ℕ → Heard)
@@ -91,9 +92,9 @@ control-heard : (code : ℕ) (says : ℕ → Heard)
     → judged (code + 1) 0 5 ≡ says 1
     → judged (code + 2) 0 5 ≡ says 2
     → judged (code + 3) 0 5 ≡ says 3
-    → (d k : ℕ) → k ≤ 3 → 5 ≤ d → heard d (frameOf (code + k) []) ≡ says k
-control-heard code says e0 e1 e2 e3 d k hk h =
-    heard-framed d (code + k) [] h ∙ four (λ (n : ℕ). judged (code + n) 0 5 ≡ says n) e0 e1 e2 e3 k hk
+    → (format : Format) (k : ℕ) → k ≤ 3 → 5 ≤ format .d → heard format (frameOf format (code + k) []) ≡ says k
+control-heard code says e0 e1 e2 e3 format k hk h =
+    heard-framed format (code + k) [] h ∙ four (λ (n : ℕ). judged (code + n) 0 5 ≡ says n) e0 e1 e2 e3 k hk
 
 pub ack-heard : AckHeard
 unfolding judged
@@ -103,19 +104,19 @@ pub nak-heard : NakHeard
 unfolding judged
 nak-heard = control-heard 0xA0 Nak refl refl refl refl
 
-pub resetFrame-framed : resetFrame ≡ frameOf 0xC0 []
+pub resetFrame-framed : (format : Format) → resetFrame format ≡ frameOf format 0xC0 []
 unfolding frameOf checksumOf
-resetFrame-framed = refl
+resetFrame-framed format = refl
 
 pub reset-heard : ResetHeard
 unfolding judged
-reset-heard d h = rw resetFrame-framed (heard-framed d 0xC0 [] h)
+reset-heard format h = rw resetFrame-framed (heard-framed format 0xC0 [] h)
 
 -- ---- what a frame that was heard brings
 
 pub packet-heard : PacketHeard
 unfolding frameOf sealed
-packet-heard number acknowledged packet = take-append-seam packet _
+packet-heard format number acknowledged packet = take-append-seam packet _
 
 -- step 4 passed, of a data frame
 even : (control : Bool) (len size : ℕ) → control ≡ false → (not control && (eqb len 0 || not (eqb len (size - 5)))) ≡ false → len ≡ size - 5
@@ -132,25 +133,25 @@ accepted-holds P fctr len reset ack nak datum =
     datum
 
 -- what holds of each refusal and of each frame that passes, a data frame's LEN being its size − 5, holds of whatever is heard
-heard-holds : (P : Heard → Type 0) (d : ℕ) (frame : List ℕ) → P Size → P Sum → P Code → P ControlSize → P Length → P Reset
+heard-holds : (P : Heard → Type 0) (format : Format) (frame : List ℕ) → P Size → P Sum → P Code → P ControlSize → P Length → P Reset
     → P (Ack (acknowledgedOf (fctrOf frame))) → P (Nak (acknowledgedOf (fctrOf frame)))
     → (lenOf frame ≡ length frame - 5 → P (Data (numberOf (fctrOf frame)) (isNak (fctrOf frame)) (acknowledgedOf (fctrOf frame)) (lenOf frame)))
-    → P (heard d frame)
+    → P (heard format frame)
 unfolding heard judged
-heard-holds P d frame size sum code control len reset ack nak datum =
-    cond-cases P (ltb (length frame) 5 || ltb d (length frame)) _ _ (λ e. size)
-    (λ e. cond-cases P (not (fcsAt (length frame - 2) frame)) _ _ (λ f. sum)
+heard-holds P format frame size sum code control len reset ack nak datum =
+    cond-cases P (ltb (length frame) 5 || ltb (format .d) (length frame)) _ _ (λ e. size)
+    (λ e. cond-cases P (not (fcsAt format (length frame - 2) frame)) _ _ (λ f. sum)
     (λ f. cond-cases P (not (used (fctrOf frame))) _ _ (λ u. code)
     (λ u. cond-cases P (isControl (fctrOf frame) && (not (eqb (length frame) 5) || not (eqb (lenOf frame) 0))) _ _ (λ c. control)
     (λ c. cond-cases P (not (isControl (fctrOf frame)) && (eqb (lenOf frame) 0 || not (eqb (lenOf frame) (length frame - 5)))) _ _ (λ l. len)
     (λ l. accepted-holds P (fctrOf frame) (lenOf frame) reset ack nak (λ k. datum (even (isControl (fctrOf frame)) (lenOf frame) (length frame) k l)))))))
 
 pub number-heard : NumberHeard
-number-heard d frame =
-    heard-holds (λ h. acknowledgedIn h ≤ 3) d frame (omega arith) (omega arith) (omega arith) (omega arith) (omega arith) (omega arith) (omega arith) (omega arith)
+number-heard format frame =
+    heard-holds (λ h. acknowledgedIn h ≤ 3) format frame (omega arith) (omega arith) (omega arith) (omega arith) (omega arith) (omega arith) (omega arith) (omega arith)
     (λ e. omega arith)
 
 pub length-heard : LengthHeard
-length-heard d frame =
-    heard-holds (λ h. lenIn h ≤ length frame - 5) d frame (omega arith) (omega arith) (omega arith) (omega arith) (omega arith) (omega arith) (omega arith) (omega arith)
+length-heard format frame =
+    heard-holds (λ h. lenIn h ≤ length frame - 5) format frame (omega arith) (omega arith) (omega arith) (omega arith) (omega arith) (omega arith) (omega arith) (omega arith)
     (λ e. omega (arith, e))

@@ -9,41 +9,42 @@ use lib.Seq.{length-take-le}
 use Rattle.base.specs.Buffer.{put}
 use Rattle.base.proofs.Put.{put-take, put-put, put-sets, put-front, put-over}
 use Rattle.fcs.specs.Checksum.{checksumOf}
+use Rattle.frame.specs.declared.Format.{Format}
 use Rattle.frame.specs.Bytes.{lenBytes, fcsBytes, sealed, frameOf, Written}
 
-pub sealed-length : (covered : List ℕ) → length (sealed covered) ≡ length covered + 2
+pub sealed-length : (format : Format) (covered : List ℕ) → length (sealed format covered) ≡ length covered + 2
 unfolding sealed
-sealed-length covered = length-append covered (fcsBytes (checksumOf covered))
+sealed-length format covered = length-append covered (fcsBytes format (checksumOf covered))
 
-pub frameOf-length : (fctr : ℕ) (packet : List ℕ) → length (frameOf fctr packet) ≡ length packet + 5
+pub frameOf-length : (format : Format) (fctr : ℕ) (packet : List ℕ) → length (frameOf format fctr packet) ≡ length packet + 5
 unfolding frameOf sealed
-frameOf-length fctr packet = simp (length-append) (omega arith)
+frameOf-length format fctr packet = simp (length-append) (omega arith)
 
 -- FCS stored behind the first `covered` bytes
-pub seal-written : (frame fcs : List ℕ) (covered sum : ℕ) → covered + 2 ≤ length frame → sum ≡ checksumOf (take covered frame)
-    → fcs ≡ fcsBytes sum
-    → Written (sealed (take covered frame)) frame (set (set frame covered (getD fcs 0 0)) (covered + 1) (getD fcs 1 0)) (covered + 2)
+pub seal-written : (format : Format) (frame fcs : List ℕ) (covered sum : ℕ) → covered + 2 ≤ length frame → sum ≡ checksumOf (take covered frame)
+    → fcs ≡ fcsBytes format sum
+    → Written (sealed format (take covered frame)) frame (set (set frame covered (getD fcs 0 0)) (covered + 1) (getD fcs 1 0)) (covered + 2)
 unfolding sealed
-seal-written frame fcs covered sum h es ef =
+seal-written format frame fcs covered sum h es ef =
     record {
-      told = sym (sealed-length (take covered frame) ∙ ap (λ (n : ℕ). n + 2) (length-take-le covered frame (omega arith)));
+      told = sym (sealed-length format (take covered frame) ∙ ap (λ (n : ℕ). n + 2) (length-take-le covered frame (omega arith)));
       bytes =
           rw (ef, es, add-one)
-          (put-sets frame (fcsBytes (checksumOf (take covered frame))) covered h
-          ∙ put-front frame (fcsBytes (checksumOf (take covered frame))) covered (omega arith));
+          (put-sets frame (fcsBytes format (checksumOf (take covered frame))) covered h
+          ∙ put-front frame (fcsBytes format (checksumOf (take covered frame))) covered (omega arith));
     }
 
 -- a frame sealed where its body was put is the frame put
-pub sealed-written : (before body middle after : List ℕ) (sent covered : ℕ) → covered ≡ length body → covered + 2 ≤ length before
+pub sealed-written : (format : Format) (before body middle after : List ℕ) (sent covered : ℕ) → covered ≡ length body → covered + 2 ≤ length before
     → middle ≡ put before 0 body
-    → Written (sealed (take covered middle)) middle after sent → Written (sealed body) before after sent
-sealed-written before body middle after sent covered e h em w =
+    → Written (sealed format (take covered middle)) middle after sent → Written (sealed format body) before after sent
+sealed-written format before body middle after sent covered e h em w =
     let own : take covered middle ≡ body = rw em (put-take before body 0 covered (omega arith) (omega arith)) in
     record {
-      told = w .told ∙ ap (λ (x : List ℕ). length (sealed x)) own;
+      told = w .told ∙ ap (λ (x : List ℕ). length (sealed format x)) own;
       bytes =
           w .bytes
-          ∙ rw (own, em) (put-over before body (sealed body) (omega arith) (omega (arith, sealed-length body)));
+          ∙ rw (own, em) (put-over before body (sealed format body) (omega arith) (omega (arith, sealed-length format body)));
     }
 
 -- a packet put behind FCTR and LEN

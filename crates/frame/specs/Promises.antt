@@ -6,6 +6,7 @@ use mathlib.Core.Bool.{false}
 use mathlib.Core.List.{List}
 use mathlib.Core.Path.{_≡_}
 use lib.ListN.{length}
+use Rattle.frame.specs.declared.Format.{Format}
 use Rattle.frame.specs.declared.Heard.the-variants.{Reset, Ack, Nak, Data}
 use Rattle.frame.specs.Bytes.{dataFrame, ackFrame, nakFrame, resetFrame}
 use Rattle.frame.specs.Steps.{heard, packetIn, lenIn, acknowledgedIn}
@@ -13,28 +14,30 @@ use Rattle.frame.specs.Steps.{heard, packetIn, lenIn, acknowledgedIn}
 -- Hearing what was written gives back what was meant: for a data frame of every number and acknowledgement and a packet of 1 to D − 5 bytes ..
 abbrev pub DataHeard : Type 0
 DataHeard =
-    (d number acknowledged : ℕ) (packet : List ℕ) → number ≤ 3 → acknowledged ≤ 3 → 1 ≤ length packet → length packet + 5 ≤ d
-    → heard d (dataFrame number acknowledged packet) ≡ Data number false acknowledged (length packet)
+    (format : Format) (number acknowledged : ℕ) (packet : List ℕ) → number ≤ 3 → acknowledged ≤ 3 → 1 ≤ length packet
+    → length packet + 5 ≤ format .d → heard format (dataFrame format number acknowledged packet) ≡ Data number false acknowledged (length packet)
 
 -- .. and the packet in it is the packet ..
 abbrev pub PacketHeard : Type 0
-PacketHeard = (number acknowledged : ℕ) (packet : List ℕ) → packetIn (dataFrame number acknowledged packet) (length packet) ≡ packet
+PacketHeard =
+    (format : Format) (number acknowledged : ℕ) (packet : List ℕ)
+    → packetIn (dataFrame format number acknowledged packet) (length packet) ≡ packet
 
 -- .. for a control ACK and a control NAK of every number ..
 abbrev pub AckHeard : Type 0
-AckHeard = (d acknowledged : ℕ) → acknowledged ≤ 3 → 5 ≤ d → heard d (ackFrame acknowledged) ≡ Ack acknowledged
+AckHeard = (format : Format) (acknowledged : ℕ) → acknowledged ≤ 3 → 5 ≤ format .d → heard format (ackFrame format acknowledged) ≡ Ack acknowledged
 
 abbrev pub NakHeard : Type 0
-NakHeard = (d acknowledged : ℕ) → acknowledged ≤ 3 → 5 ≤ d → heard d (nakFrame acknowledged) ≡ Nak acknowledged
+NakHeard = (format : Format) (acknowledged : ℕ) → acknowledged ≤ 3 → 5 ≤ format .d → heard format (nakFrame format acknowledged) ≡ Nak acknowledged
 
 -- .. and for the reset frame.
 abbrev pub ResetHeard : Type 0
-ResetHeard = (d : ℕ) → 5 ≤ d → heard d resetFrame ≡ Reset
+ResetHeard = (format : Format) → 5 ≤ format .d → heard format (resetFrame format) ≡ Reset
 
 -- The packet of a data frame that is heard lies in the frame, before FCS.
 abbrev pub LengthHeard : Type 0
-LengthHeard = (d : ℕ) (frame : List ℕ) → lenIn (heard d frame) ≤ length frame - 5
+LengthHeard = (format : Format) (frame : List ℕ) → lenIn (heard format frame) ≤ length frame - 5
 
 -- An acknowledgement that is heard names a frame number, 0 to 3.
 abbrev pub NumberHeard : Type 0
-NumberHeard = (d : ℕ) (frame : List ℕ) → acknowledgedIn (heard d frame) ≤ 3
+NumberHeard = (format : Format) (frame : List ℕ) → acknowledgedIn (heard format frame) ≤ 3

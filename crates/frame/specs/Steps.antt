@@ -1,4 +1,4 @@
--- A received frame, steps 1 to 4: what the bytes are, with D given and no state. Document 01, "A received frame, in this order".
+-- A received frame, steps 1 to 4: what the bytes are, with the format given and no state. Document 01, "A received frame, in this order".
 use Prim.Native.Nat.{ℕ, _+_, _-_, _*_, _/_, _%_}
 use mathlib.Core.Bool.{Bool, true, false, cond, not, _&&_, _||_}
 use mathlib.Core.List.{List, [], _∷_}
@@ -7,6 +7,7 @@ use lib.Dec.{eqb, leb, ltb}
 use Rattle.base.specs.Range.{within}
 use Rattle.base.specs.Answer.{done, badFrame, unusedCode, controlSize}
 use Rattle.fcs.specs.Checksum.{checksumOf}
+use Rattle.frame.specs.declared.Format.{Format}
 use Rattle.frame.specs.declared.Heard.{Heard}
 use Rattle.frame.specs.declared.Heard.the-variants.{Size, Sum, Code, ControlSize, Length, Reset, Ack, Nak, Data}
 use Rattle.frame.specs.Bytes.{fcsBytes}
@@ -29,8 +30,8 @@ sameBytes (a ∷ s) [] = false
 sameBytes (a ∷ s) (b ∷ t) = eqb a b && sameBytes s t
 
 -- the two bytes from index `at` on are FCS of all before them
-unfoldable pub fcsAt : ℕ → List ℕ → Bool
-fcsAt at frame = sameBytes (take 2 (drop at frame)) (fcsBytes (checksumOf (take at frame)))
+unfoldable pub fcsAt : Format → ℕ → List ℕ → Bool
+fcsAt format at frame = sameBytes (take 2 (drop at frame)) (fcsBytes format (checksumOf (take at frame)))
 
 -- ---- the parts of FCTR
 
@@ -76,11 +77,11 @@ judged fctr len size =
     (cond (not (isControl fctr) && (eqb len 0 || not (eqb len (size - 5)))) Length (accepted fctr len)))
 
 -- "1. Fewer than 5 bytes, more than D, or a wrong checksum"
-unfoldable pub heard : ℕ → List ℕ → Heard
+unfoldable pub heard : Format → List ℕ → Heard
 unfolding fcsAt judged
-heard d frame =
-    cond (ltb (length frame) 5 || ltb d (length frame)) Size
-    (cond (not (fcsAt (length frame - 2) frame)) Sum (judged (fctrOf frame) (lenOf frame) (length frame)))
+heard format frame =
+    cond (ltb (length frame) 5 || ltb (format .d) (length frame)) Size
+    (cond (not (fcsAt format (length frame - 2) frame)) Sum (judged (fctrOf frame) (lenOf frame) (length frame)))
 
 -- "When an answer is an enum, a definition gives this paper's number and values for each case of that enum. The promises use that definition."
 -- The numbers: 6 for steps 1 and 4, 7 for step 2, 8 for step 3; 0 for a control frame that passes, and for a data frame 0, or 9 by step 7,

@@ -9,6 +9,12 @@ ghost use Rattle.base.specs.Buffer.{put};
 ghost use Rattle.frame.specs.Bytes.{lenBytes, fcsBytes, sealed, dataFrame, ackFrame, nakFrame, frameOf, resetFrame, Written};
 ghost use Rattle.frame.specs.Steps.{lenOf, fcsAt, used, accepted, judged, heard, refusalOf};
 
+// What the bytes of a frame depend on beside what it says, for the writer as for the hearer: D. (An order of the FCS bytes would be one more
+// field; no function outside this crate would see it.)
+pub struct Format {
+    pub d: u16,
+}
+
 // What steps 1 to 4 make of a received frame. Each refusal has a case of its own, also where two have one number.
 pub enum Heard {
     Size,
@@ -27,15 +33,15 @@ pub enum Heard {
     },
 }
 
-fn fcs_bytes(sum: u16) -> [u8; 2]
-    ensures { λ r. ⌜ r ≡ fcsBytes sum ⌝ }
+fn fcs_bytes(format: Format, sum: u16) -> [u8; 2]
+    ensures { λ r. ⌜ r ≡ fcsBytes format sum ⌝ }
 {
     [(sum % 256) as u8, (sum / 256) as u8]
 }
 
 // ---- hearing
 
-fn wide(byte: u8) -> usize
+fn widen(byte: u8) -> usize
     ensures { λ r. ⌜ (r ≡ byte) × (r < 256) ⌝ }
 {
     byte as usize
@@ -45,14 +51,14 @@ fn len_of(frame: &[u8]) -> usize
     requires { ⌜ 5 ≤ length (now frame) ⌝ }
     ensures { λ r. ⌜ (r ≡ lenOf (now (frame .entry))) × (r < 65536) ⌝ }
 {
-    wide(frame[1]) * 256 + wide(frame[2])
+    widen(frame[1]) * 256 + widen(frame[2])
 }
 
-fn fcs_at(frame: &[u8], at: usize) -> bool
+fn fcs_at(format: Format, frame: &[u8], at: usize) -> bool
     requires { ⌜ at + 2 ≤ length (now frame) ⌝ }
-    ensures { λ r. ⌜ r ≡ fcsAt at (now (frame .entry)) ⌝ }
+    ensures { λ r. ⌜ r ≡ fcsAt format at (now (frame .entry)) ⌝ }
 {
-    let right = fcs_bytes(fcs::checksum(&frame[..at]));
+    let right = fcs_bytes(format, fcs::checksum(&frame[..at]));
     (frame[at] == right[0]) & (frame[at + 1] == right[1])
 }
 
@@ -111,8 +117,8 @@ fn judge(fctr: u8, len: usize, size: usize) -> Heard
 }
 
 // Steps 1 to 4. The checksum is not run over a frame longer than D.
-pub fn hear(d: u16, frame: &[u8]) -> Heard
-    ensures { λ r. ⌜ r ≡ heard d (now (frame .entry)) ⌝ }
+pub fn hear(format: Format, frame: &[u8]) -> Heard
+    ensures { λ r. ⌜ r ≡ heard format (now (frame .entry)) ⌝ }
 {
     let size = frame.len();
     if size < 5 {
@@ -120,10 +126,10 @@ pub fn hear(d: u16, frame: &[u8]) -> Heard
     }
     let at = size - 2;
     let len = len_of(frame);
-    if (d as usize) < size {
+    if (format.d as usize) < size {
         return Heard::Size;
     }
-    if fcs_at(frame, at) {
+    if fcs_at(format, frame, at) {
         return judge(frame[0], len, size);
     }
     Heard::Sum
@@ -162,52 +168,58 @@ fn put_head(frame: &mut [u8], fctr: u8, len: u16)
 }
 
 // "FCS covers all before it".
-fn seal(frame: &mut [u8], covered: usize) -> u16
+fn seal(format: Format, frame: &mut [u8], covered: usize) -> u16
     requires { ⌜ (covered + 2 ≤ length (now frame)) × (covered + 2 < 65536) ⌝ }
-    ensures { λ r. ⌜ Written (sealed (take covered (now (frame .entry)))) (now (frame .entry)) (now (frame .exit)) r ⌝ }
+    ensures { λ r. ⌜ Written (sealed format (take covered (now (frame .entry)))) (now (frame .entry)) (now (frame .exit)) r ⌝ }
 {
-    let bytes = fcs_bytes(fcs::checksum(&frame[..covered]));
+    let bytes = fcs_bytes(format, fcs::checksum(&frame[..covered]));
     frame[covered] = bytes[0];
     frame[covered + 1] = bytes[1];
     (covered + 2) as u16
 }
 
-pub fn write_data(frame: &mut [u8], number: u8, acknowledged: u8, packet: &[u8]) -> u16
+pub fn write_data(
+    format: Format,
+    frame: &mut [u8],
+    number: u8,
+    acknowledged: u8,
+    packet: &[u8],
+) -> u16
     requires { ⌜ (number ≤ 3) × (acknowledged ≤ 3) ⌝ }
     requires { ⌜ (length (now packet) + 5 ≤ length (now frame)) × (length (now packet) + 5 < 65536) ⌝ }
-    ensures { λ r. ⌜ Written (dataFrame number acknowledged (now (packet .entry))) (now (frame .entry)) (now (frame .exit)) r ⌝ }
+    ensures { λ r. ⌜ Written (dataFrame format number acknowledged (now (packet .entry))) (now (frame .entry)) (now (frame .exit)) r ⌝ }
 {
     let len = packet.len();
     put_head(frame, number * 4 + acknowledged, len as u16);
     buffer::copy_at(frame, 3, packet);
-    seal(frame, 3 + len)
+    seal(format, frame, 3 + len)
 }
 
-fn write_control(frame: &mut [u8], fctr: u8) -> u16
+fn write_control(format: Format, frame: &mut [u8], fctr: u8) -> u16
     requires { ⌜ 5 ≤ length (now frame) ⌝ }
-    ensures { λ r. ⌜ Written (frameOf fctr []) (now (frame .entry)) (now (frame .exit)) r ⌝ }
+    ensures { λ r. ⌜ Written (frameOf format fctr []) (now (frame .entry)) (now (frame .exit)) r ⌝ }
 {
     put_head(frame, fctr, 0);
-    seal(frame, 3)
+    seal(format, frame, 3)
 }
 
-pub fn write_ack(frame: &mut [u8], acknowledged: u8) -> u16
+pub fn write_ack(format: Format, frame: &mut [u8], acknowledged: u8) -> u16
     requires { ⌜ (acknowledged ≤ 3) × (5 ≤ length (now frame)) ⌝ }
-    ensures { λ r. ⌜ Written (ackFrame acknowledged) (now (frame .entry)) (now (frame .exit)) r ⌝ }
+    ensures { λ r. ⌜ Written (ackFrame format acknowledged) (now (frame .entry)) (now (frame .exit)) r ⌝ }
 {
-    write_control(frame, 0x80 + acknowledged)
+    write_control(format, frame, 0x80 + acknowledged)
 }
 
-pub fn write_nak(frame: &mut [u8], acknowledged: u8) -> u16
+pub fn write_nak(format: Format, frame: &mut [u8], acknowledged: u8) -> u16
     requires { ⌜ (acknowledged ≤ 3) × (5 ≤ length (now frame)) ⌝ }
-    ensures { λ r. ⌜ Written (nakFrame acknowledged) (now (frame .entry)) (now (frame .exit)) r ⌝ }
+    ensures { λ r. ⌜ Written (nakFrame format acknowledged) (now (frame .entry)) (now (frame .exit)) r ⌝ }
 {
-    write_control(frame, 0xA0 + acknowledged)
+    write_control(format, frame, 0xA0 + acknowledged)
 }
 
-pub fn write_reset(frame: &mut [u8]) -> u16
+pub fn write_reset(format: Format, frame: &mut [u8]) -> u16
     requires { ⌜ 5 ≤ length (now frame) ⌝ }
-    ensures { λ r. ⌜ Written resetFrame (now (frame .entry)) (now (frame .exit)) r ⌝ }
+    ensures { λ r. ⌜ Written (resetFrame format) (now (frame .entry)) (now (frame .exit)) r ⌝ }
 {
     buffer::copy_at(frame, 0, b"\xC0\x00\x00\x9A\x0A");
     5

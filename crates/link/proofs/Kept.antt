@@ -16,9 +16,9 @@ use Rattle.state.proofs.Facts.{inRange-facts}
 use Rattle.state.proofs.Keeps.{fresh-sound, sound-open, started-sound, resynchronised-sound}
 use Rattle.send.specs.Submit.{submitted}
 use Rattle.send.proofs.Keeps.{submitted-sound}
-use Rattle.receive.specs.Take.{obeyed, taken}
-use Rattle.receive.proofs.Facts.{taken-open}
-use Rattle.receive.proofs.Keeps.{taken-sound}
+use Rattle.receive.specs.Take.{obeyed, frameTaken}
+use Rattle.receive.proofs.Facts.{frameTaken-open}
+use Rattle.receive.proofs.Keeps.{frameTaken-sound}
 use Rattle.clock.specs.Look.{looked, acknowledgedNow}
 use Rattle.clock.proofs.Keeps.{looked-sound, acknowledgedNow-sound}
 use Rattle.link.specs.Promises.{OneOutcome, Settled, ZeroRefused, AckThree, Kept}
@@ -34,14 +34,14 @@ settled =
       start = λ s slots told other p q. p ∙ sym q;
       submit = λ l slots frame ms packet told other copied otherCopied written otherWritten p q. let e = p ∙ sym q in
           (ap (λ (a : After Outcome). a .told) e, ap (λ (a : After Outcome). a .slots) e, ap (λ (a : After Outcome). a .frame) e);
-      take = λ l slots frame ms received. one slots (taken l slots frame ms received);
+      take = λ l slots frame ms received. one slots (frameTaken l slots frame ms received);
       look = λ l slots frame ms. one slots (looked l slots frame ms);
       acknowledge = λ l slots frame. one slots (acknowledgedNow l slots frame);
       resynchronise = λ l slots frame. one slots (resynchronised l slots frame);
     }
 
 pub zero-refused : (slots frame : List ℕ) → ZeroRefused slots frame
-unfolding submitted taken looked acknowledgedNow resynchronised
+unfolding submitted frameTaken looked acknowledgedNow resynchronised
 zero-refused slots frame =
     record {
       submit = λ ms packet. refl;
@@ -57,8 +57,8 @@ ack-three s =
     record {
       carried = refl;
       control = λ slots frame ms e h k. let r : InRange s = inRange-facts s e in
-          taken-open (freshOf s) slots frame ms (ackFrame 3) (sound-open (freshOf s) (length slots) (length frame) (fresh-sound s r) refl h k)
-          ∙ rw (ack-heard (s .d) 3 (omega arith) (omega (arith, r .d-lo)));
+          frameTaken-open (freshOf s) slots frame ms (ackFrame (s .format) 3) (sound-open (freshOf s) (length slots) (length frame) (fresh-sound s r) refl h k)
+          ∙ rw (ack-heard (s .format) 3 (omega arith) (omega (arith, r .d-lo)));
     }
 
 pub kept : Kept
@@ -66,7 +66,7 @@ kept =
     record {
       start = started-sound;
       submit = submitted-sound;
-      take = taken-sound;
+      take = frameTaken-sound;
       look = looked-sound;
       acknowledge = acknowledgedNow-sound;
       resynchronise = resynchronised-sound;

@@ -12,11 +12,11 @@ use Rattle.state.specs.declared.Outcome.{Outcome}
 use Rattle.state.specs.State.{freshOf}
 use Rattle.state.specs.Gate.{After}
 use Rattle.send.specs.Submit.{submitted}
-use Rattle.receive.specs.Take.{taken}
+use Rattle.receive.specs.Take.{frameTaken}
 use Rattle.link.specs.FalseEnds.{ShutOut}
 
 abbrev end : Link
-end = freshOf (record { d = 16; transmit = 100; acknowledge = 50; window = 2; repeats = 3 })
+end = freshOf (record { format = record { d = 16 }; transtimeout = 100; acktimeout = 50; window = 2; repeats = 3 })
 
 abbrev slots : List ℕ
 slots = 0 ∷ 0 ∷ 0 ∷ 0 ∷ 0 ∷ 0 ∷ 0 ∷ 0 ∷ 0 ∷ 0 ∷ 0 ∷ 0 ∷ 0 ∷ 0 ∷ 0 ∷ 0 ∷ 0 ∷ 0 ∷ 0 ∷ 0 ∷ 0 ∷ 0 ∷ []
@@ -36,7 +36,7 @@ less : (n m : ℕ) → n < m → n ≡ m → ⊥
 less n m h e = omega (arith, h, e)
 
 pub shut-out : ShutOut
-unfolding submitted taken freshOf put frameOf checksumOf
+unfolding submitted frameTaken freshOf put frameOf checksumOf
 shut-out = record {
   refuses-submit = λ answer no same. no (ap (λ (a : After Outcome). a .told .answer) (same end slots buffer 0 (1 ∷ [])));
   refuses-take = λ answer no same. no (ap (λ (a : After Outcome). a .told .answer) (same end slots buffer 0 six));

@@ -15,7 +15,7 @@ use Rattle.state.specs.declared.Link.{Link}
 use Rattle.state.specs.declared.Outcome.{Outcome}
 use Rattle.state.specs.Gate.{After, after, refused}
 use Rattle.send.specs.Submit.{submitted}
-use Rattle.receive.specs.Take.{taken}
+use Rattle.receive.specs.Take.{frameTaken}
 
 -- what submit and take are: of a state, the two lent buffers, the millisecond, and a packet or a received frame
 abbrev pub Call : Type 0
@@ -56,7 +56,7 @@ pretending l slots frame ms packet =
 -- "one that invents packet or drop counts": so many more bytes delivered, or so many more packets dropped
 abbrev pub inventing : ℕ → ℕ → Call
 inventing delivered dropped l slots frame ms received =
-    let right : After Outcome = taken l slots frame ms received in
+    let right : After Outcome = frameTaken l slots frame ms received in
     after (record {
       state = right .told .state;
       sent = right .told .sent;
@@ -69,9 +69,9 @@ inventing delivered dropped l slots frame ms received =
 
 pub record ShutOut : Type 0 where
   pub refuses-submit : (answer : ℕ) → (answer ≡ done → ⊥) → Same (refusing answer) submitted → ⊥
-  pub refuses-take : (answer : ℕ) → (answer ≡ done → ⊥) → Same (refusing answer) taken → ⊥
+  pub refuses-take : (answer : ℕ) → (answer ≡ done → ⊥) → Same (refusing answer) frameTaken → ⊥
   pub repeats : (same : List ℕ) → Same (repeating same) submitted → ⊥
   pub idles-submit : Same idle submitted → ⊥
-  pub idles-take : Same idle taken → ⊥
+  pub idles-take : Same idle frameTaken → ⊥
   pub pretends : Same pretending submitted → ⊥
-  pub invents : (delivered dropped : ℕ) → 1 ≤ delivered + dropped → Same (inventing delivered dropped) taken → ⊥
+  pub invents : (delivered dropped : ℕ) → 1 ≤ delivered + dropped → Same (inventing delivered dropped) frameTaken → ⊥

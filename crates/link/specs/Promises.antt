@@ -17,7 +17,7 @@ use Rattle.state.specs.Calls.{zeros, started, resynchronised}
 use Rattle.state.specs.Formed.{Sound}
 use Rattle.send.specs.Submit.{submitted}
 use Rattle.receive.specs.Steps.{freed}
-use Rattle.receive.specs.Take.{taken}
+use Rattle.receive.specs.Take.{frameTaken}
 use Rattle.clock.specs.Look.{looking, looked, acknowledgedNow}
 
 -- ---- "any two outcomes allowed are equal"
@@ -35,7 +35,7 @@ pub record Settled : Type 0 where
   pub submit : (l : Link) (slots frame : List ℕ) (ms : ℕ) (packet : List ℕ) (told other : Outcome) (copied otherCopied written otherWritten : List ℕ)
       → after told copied written ≡ submitted l slots frame ms packet → after other otherCopied otherWritten ≡ submitted l slots frame ms packet
       → (told ≡ other) × (copied ≡ otherCopied) × (written ≡ otherWritten)
-  pub take : (l : Link) (slots frame : List ℕ) (ms : ℕ) (received : List ℕ) → OneOutcome slots (taken l slots frame ms received)
+  pub take : (l : Link) (slots frame : List ℕ) (ms : ℕ) (received : List ℕ) → OneOutcome slots (frameTaken l slots frame ms received)
   pub look : (l : Link) (slots frame : List ℕ) (ms : ℕ) → OneOutcome slots (looked l slots frame ms)
   pub acknowledge : (l : Link) (slots frame : List ℕ) → OneOutcome slots (acknowledgedNow l slots frame)
   pub resynchronise : (l : Link) (slots frame : List ℕ) → OneOutcome slots (resynchronised l slots frame)
@@ -45,7 +45,7 @@ pub record Settled : Type 0 where
 -- "a state of zeros, to which every link call answers 1", and leaves all as it was, with buffers of any length
 pub record ZeroRefused (slots frame : List ℕ) : Type 0 where
   pub submit : (ms : ℕ) (packet : List ℕ) → submitted zeros slots frame ms packet ≡ refused zeros outOfRange slots frame
-  pub take : (ms : ℕ) (received : List ℕ) → taken zeros slots frame ms received ≡ refused zeros outOfRange slots frame
+  pub take : (ms : ℕ) (received : List ℕ) → frameTaken zeros slots frame ms received ≡ refused zeros outOfRange slots frame
   pub look : (ms : ℕ) → looked zeros slots frame ms ≡ looking (refused zeros outOfRange slots frame)
   pub acknowledge : acknowledgedNow zeros slots frame ≡ refused zeros outOfRange slots frame
   pub resynchronise : resynchronised zeros slots frame ≡ refused zeros outOfRange slots frame
@@ -55,14 +55,14 @@ pub record ZeroRefused (slots frame : List ℕ) : Type 0 where
 pub record AckThree (s : Settings) : Type 0 where
   pub carried : freed (freshOf s) 3 ≡ freshOf s
   pub control : (slots frame : List ℕ) (ms : ℕ) → inRange s ≡ true → slotsNeed s ≤ length slots → frameNeed s ≤ length frame
-      → taken (freshOf s) slots frame ms (ackFrame 3) ≡ refused (freshOf s) done slots frame
+      → frameTaken (freshOf s) slots frame ms (ackFrame (s .format) 3) ≡ refused (freshOf s) done slots frame
 
 -- Serves demand 1, by which no caller has to check first: a state that start made with answer 0, and that only calls changed, is never refused
 -- with 1. So every call leaves a sound state where it found one, whatever it is given.
 pub record Kept : Type 0 where
   pub start : (s : Settings) (slots : ℕ) → started s slots .answer ≡ done → Sound (started s slots .state)
   pub submit : (l : Link) (slots frame : List ℕ) (ms : ℕ) (packet : List ℕ) → Sound l → Sound (submitted l slots frame ms packet .told .state)
-  pub take : (l : Link) (slots frame : List ℕ) (ms : ℕ) (received : List ℕ) → Sound l → Sound (taken l slots frame ms received .told .state)
+  pub take : (l : Link) (slots frame : List ℕ) (ms : ℕ) (received : List ℕ) → Sound l → Sound (frameTaken l slots frame ms received .told .state)
   pub look : (l : Link) (slots frame : List ℕ) (ms : ℕ) → Sound l → Sound (looked l slots frame ms .told .outcome .state)
   pub acknowledge : (l : Link) (slots frame : List ℕ) → Sound l → Sound (acknowledgedNow l slots frame .told .state)
   pub resynchronise : (l : Link) (slots frame : List ℕ) → Sound l → Sound (resynchronised l slots frame .told .state)

@@ -8,7 +8,7 @@ ghost use lib.ListN.{length};
 ghost use Rattle.state.specs.Gate.{after};
 ghost use Rattle.state.specs.Calls.{started, resynchronised};
 ghost use Rattle.send.specs.Submit.{submitted};
-ghost use Rattle.receive.specs.Take.{taken};
+ghost use Rattle.receive.specs.Take.{frameTaken};
 ghost use Rattle.clock.specs.Look.{looked, acknowledgedNow};
 
 pub fn start(s: Settings, slots: &[u8]) -> Outcome
@@ -24,7 +24,7 @@ pub fn submit(l: Link, slots: &mut [u8], frame: &mut [u8], ms: u32, packet: &[u8
 }
 
 pub fn take(l: Link, slots: &[u8], frame: &mut [u8], ms: u32, received: &[u8]) -> Outcome
-    ensures { λ r. ⌜ after r (now (slots .entry)) (now (frame .exit)) ≡ taken l (now (slots .entry)) (now (frame .entry)) ms (now (received .entry)) ⌝ }
+    ensures { λ r. ⌜ after r (now (slots .entry)) (now (frame .exit)) ≡ frameTaken l (now (slots .entry)) (now (frame .entry)) ms (now (received .entry)) ⌝ }
 {
     receive::take(l, slots, frame, ms, received)
 }

@@ -25,9 +25,9 @@ use Rattle.state.specs.Formed.{InRange}
 use Rattle.state.proofs.Facts.{wellFormed-facts}
 use Rattle.state.proofs.Keeps.{sound-gate}
 use Rattle.send.specs.Repeat.{packetOf}
-use Rattle.send.specs.Makers.{silent, ends, sends, quiet, marked, sendsRepeat, sendsNak}
+use Rattle.send.specs.Makers.{silent, concluded, sends, ackStopped, marked, sendsRepeat, sendsNak}
 use Rattle.receive.specs.Steps.{freed, repeatable, afterDelivery}
-use Rattle.receive.specs.Take.{obeyed, taken}
+use Rattle.receive.specs.Take.{obeyed, frameTaken}
 use Rattle.receive.proofs.Facts.{repeatable-holds, data-taken}
 use Rattle.pair.specs.System.{System, swap, sentBy, leftBy, takes, lookOf, looks, IsClock}
 use Rattle.pair.specs.Round.{Enough, dueAt, Carried, head, Carries, none, here, there, carriedIn, Looks, nothing, sends-on, Round, round, Rounds, begin, next}
@@ -85,19 +85,19 @@ pub record Used (d : ℕ) (h : Heard) (a : After Outcome) : Type 0 where
   pub less : load d (sentBy a) + 1 ≤ cost h
   pub gone : eqb (a .told .answer) shortBuffer ≡ false
 
-pub used-nothing : (d : ℕ) (h : Heard) (l : Link) (slots frame : List ℕ) (answer delivered : ℕ) → eqb answer shortBuffer ≡ false → Used d h (ends (silent l frame) answer delivered slots)
+pub used-nothing : (d : ℕ) (h : Heard) (l : Link) (slots frame : List ℕ) (answer delivered : ℕ) → eqb answer shortBuffer ≡ false → Used d h (concluded (silent l frame) answer delivered slots)
 used-nothing d h l slots frame answer delivered e = record { less = omega (arith, cost-range h .0); gone = e }
 
 pub used-sent : (d : ℕ) (h reply : Heard) (l : Link) (bytes slots frame : List ℕ) (answer delivered : ℕ) → eqb answer shortBuffer ≡ false → 1 ≤ length bytes → length bytes ≤ length frame
-    → heard d bytes ≡ reply → cost reply + 1 ≤ cost h → Used d h (ends (sends l bytes frame) answer delivered slots)
+    → heard d bytes ≡ reply → cost reply + 1 ≤ cost h → Used d h (concluded (sends l bytes frame) answer delivered slots)
 used-sent d h reply l bytes slots frame answer delivered e lo hi m c =
     record { less = rw (sent-frame l bytes frame slots answer delivered lo hi, m) (omega arith); gone = e }
 
 -- ---- each kind of frame
 
-pub used-nak : (s : Settings) (h : Heard) (l : Link) (slots frame : List ℕ) (answer : ℕ) → InRange s → s .d ≤ length frame → cost h ≡ 4 → eqb answer shortBuffer ≡ false
-    → Used (s .d) h (ends (sendsNak l frame) answer 0 slots)
-used-nak s h l slots frame answer r room four e = go (l .naked)
+pub used-nak : (s : Settings) (h : Heard) (l : Link) (slots frame : List ℕ) (answer : ℕ) → InRange s → s .format .d ≤ length frame → cost h ≡ 4 → eqb answer shortBuffer ≡ false
+    → Used (s .format) h (concluded (sendsNak l frame) answer 0 slots)
+used-nak s h l slots frame answer r room four e = go (l .nakmark)
   where
     k : ℕ
     k = (lastCorrect l + 1) % 4
@@ -108,12 +108,12 @@ used-nak s h l slots frame answer r room four e = go (l .naked)
     size : length (nakFrame k) ≡ 5
     size = frameOf-length (0xA0 + k) []
 
-    go : (t : Bool) → Used (s .d) h (ends (cond t (silent l frame) (sends (marked l) (nakFrame k) frame)) answer 0 slots)
-    go true = used-nothing (s .d) h l slots frame answer 0 e
-    go false = used-sent (s .d) h (Nak k) (marked l) (nakFrame k) slots frame answer 0 e (omega (arith, size)) (omega (arith, size, r .d-lo)) (nak-heard (s .d) k (omega (arith, small)) (omega (arith, r .d-lo))) (omega (arith, four))
+    go : (t : Bool) → Used (s .format) h (concluded (cond t (silent l frame) (sends (marked l) (nakFrame k) frame)) answer 0 slots)
+    go true = used-nothing (s .format) h l slots frame answer 0 e
+    go false = used-sent (s .format) h (Nak k) (marked l) (nakFrame k) slots frame answer 0 e (omega (arith, size)) (omega (arith, size, r .d-lo)) (nak-heard (s .format) k (omega (arith, small)) (omega (arith, r .d-lo))) (omega (arith, four))
 
-pub used-idle : (s : Settings) (S : System) (frame : List ℕ) (ms : ℕ) (h : Heard) → InRange s → Inv s S → s .d ≤ length frame → acknowledgedIn h ≤ 3 → Idle h
-    → Used (s .d) h (obeyed (S .here .state) (S .here .slots) frame ms h)
+pub used-idle : (s : Settings) (S : System) (frame : List ℕ) (ms : ℕ) (h : Heard) → InRange s → Inv s S → s .format .d ≤ length frame → acknowledgedIn h ≤ 3 → Idle h
+    → Used (s .format) h (obeyed (S .here .state) (S .here .slots) frame ms h)
 unfolding obeyed
 used-idle s S frame ms Size r I room small by-size = used-nak s Size (S .here .state) (S .here .slots) frame 6 r room refl refl
 used-idle s S frame ms Sum r I room small by-sum = used-nak s Sum (S .here .state) (S .here .slots) frame 6 r room refl refl
@@ -122,27 +122,27 @@ used-idle s S frame ms (Nak k) r I room small (a-nak k₁) = go (repeatable l k)
     l : Link
     l = S .here .state
 
-    repeated : (j : ℕ) → j < l .waiting → Used (s .d) (Nak k) (ends (sendsRepeat l (S .here .slots) frame ms (sentBefore l j)) done 0 (S .here .slots))
+    repeated : (j : ℕ) → j < l .waiting → Used (s .format) (Nak k) (concluded (sendsRepeat l (S .here .slots) frame ms (sentBefore l j)) done 0 (S .here .slots))
     repeated j wait =
         let packet : List ℕ = packetOf l (S .here .slots) (sentBefore l j) in
-        let size : (1 ≤ length (repeatOf (S .here) j)) × (length (repeatOf (S .here) j) ≤ s .d) =
-        repeat-size s (S .here) (S .there .takenIn) (I .freedHere) (I .gotHere) j r (I .here) wait in
-        used-sent (s .d) (Nak k) (Data (sentBefore l j) false (lastCorrect l) (length packet)) _ (repeatOf (S .here) j) (S .here .slots) frame done 0 refl (size .0) (omega (arith, size .1, room))
-        (repeat-heard s (S .here) (S .there .takenIn) (I .freedHere) (I .gotHere) j r (I .here) wait) (omega arith)
+        let size : (1 ≤ length (repeatOf (S .here) j)) × (length (repeatOf (S .here) j) ≤ s .format .d) =
+        repeat-size s (S .here) (S .there .taken) (I .freedHere) (I .gotHere) j r (I .here) wait in
+        used-sent (s .format) (Nak k) (Data (sentBefore l j) false (lastCorrect l) (length packet)) _ (repeatOf (S .here) j) (S .here .slots) frame done 0 refl (size .0) (omega (arith, size .1, room))
+        (repeat-heard s (S .here) (S .there .taken) (I .freedHere) (I .gotHere) j r (I .here) wait) (omega arith)
 
-    go : (t : Bool) → repeatable l k ≡ t → Used (s .d) (Nak k) (ends (cond t (sendsRepeat l (S .here .slots) frame ms k) (silent l frame)) done 0 (S .here .slots))
+    go : (t : Bool) → repeatable l k ≡ t → Used (s .format) (Nak k) (concluded (cond t (sendsRepeat l (S .here .slots) frame ms k) (silent l frame)) done 0 (S .here .slots))
     go true e =
-        repeatable-holds (λ n. Used (s .d) (Nak k) (ends (sendsRepeat l (S .here .slots) frame ms n) done 0 (S .here .slots))) l k
+        repeatable-holds (λ n. Used (s .format) (Nak k) (concluded (sendsRepeat l (S .here .slots) frame ms n) done 0 (S .here .slots))) l k
         (wellFormed-facts l (I .here .sound .formed) .next) small e (λ j wait may. repeated j wait)
-    go false e = used-nothing (s .d) (Nak k) l (S .here .slots) frame done 0 refl
+    go false e = used-nothing (s .format) (Nak k) l (S .here .slots) frame done 0 refl
 
-pub used-data : (s : Settings) (l : Link) (slots frame : List ℕ) (ms number k len : ℕ) → InRange s → s .d ≤ length frame
-    → Used (s .d) (Data number false k len) (obeyed l slots frame ms (Data number false k len))
+pub used-data : (s : Settings) (l : Link) (slots frame : List ℕ) (ms number k len : ℕ) → InRange s → s .format .d ≤ length frame
+    → Used (s .format) (Data number false k len) (obeyed l slots frame ms (Data number false k len))
 used-data s l slots frame ms number k len r room =
-    data-taken (λ a. Used (s .d) (Data number false k len) a) l slots frame ms number k len
-    (λ e. used-nothing (s .d) (Data number false k len) (afterDelivery six ms) slots frame done len refl)
-    (λ n. used-sent (s .d) (Data number false k len) (Ack (lastCorrect six)) (quiet six) (ackFrame (lastCorrect six)) slots frame unexpected 0 refl (omega (arith, size)) (omega (arith, size, r .d-lo))
-    (ack-heard (s .d) (lastCorrect six) (omega arith) (omega (arith, r .d-lo))) (omega arith))
+    data-taken (λ a. Used (s .format) (Data number false k len) a) l slots frame ms number k len
+    (λ e. used-nothing (s .format) (Data number false k len) (afterDelivery six ms) slots frame done len refl)
+    (λ n. used-sent (s .format) (Data number false k len) (Ack (lastCorrect six)) (ackStopped six) (ackFrame (lastCorrect six)) slots frame unexpected 0 refl (omega (arith, size)) (omega (arith, size, r .d-lo))
+    (ack-heard (s .format) (lastCorrect six) (omega arith) (omega (arith, r .d-lo))) (omega arith))
   where
     six : Link
     six = freed l k
@@ -150,29 +150,29 @@ used-data s l slots frame ms number k len r room =
     size : length (ackFrame (lastCorrect six)) ≡ 5
     size = frameOf-length (0x80 + lastCorrect six) []
 
-pub used-ack : (s : Settings) (l : Link) (slots frame : List ℕ) (ms k : ℕ) → Used (s .d) (Ack k) (obeyed l slots frame ms (Ack k))
+pub used-ack : (s : Settings) (l : Link) (slots frame : List ℕ) (ms k : ℕ) → Used (s .format) (Ack k) (obeyed l slots frame ms (Ack k))
 unfolding obeyed
-used-ack s l slots frame ms k = used-nothing (s .d) (Ack k) (freed l k) slots frame done 0 refl
+used-ack s l slots frame ms k = used-nothing (s .format) (Ack k) (freed l k) slots frame done 0 refl
 
-pub used-head : (s : Settings) (S : System) (frame received : List ℕ) (rest : List (List ℕ)) (ms : ℕ) (t : List (List ℕ)) (h b e : ℕ) → InRange s → Inv s S → s .d ≤ length frame
-    → Line (s .d) t h b e (received ∷ rest) → Used (s .d) (heard (s .d) received) (obeyed (S .here .state) (S .here .slots) frame ms (heard (s .d) received))
+pub used-head : (s : Settings) (S : System) (frame received : List ℕ) (rest : List (List ℕ)) (ms : ℕ) (t : List (List ℕ)) (h b e : ℕ) → InRange s → Inv s S → s .format .d ≤ length frame
+    → Line (s .format) t h b e (received ∷ rest) → Used (s .format) (heard (s .format) received) (obeyed (S .here .state) (S .here .slots) frame ms (heard (s .format) received))
 used-head s S frame received rest ms t h b e r I room (data-next f x len m p lo u v w) =
-    subst (λ y. Used (s .d) y (obeyed (S .here .state) (S .here .slots) frame ms y)) (sym m) (used-data s (S .here .state) (S .here .slots) frame ms (f % 4) ((x + 3) % 4) len r room)
+    subst (λ y. Used (s .format) y (obeyed (S .here .state) (S .here .slots) frame ms y)) (sym m) (used-data s (S .here .state) (S .here .slots) frame ms (f % 4) ((x + 3) % 4) len r room)
 used-head s S frame received rest ms t h b e r I room (ack-next x m v w) =
-    subst (λ y. Used (s .d) y (obeyed (S .here .state) (S .here .slots) frame ms y)) (sym m) (used-ack s (S .here .state) (S .here .slots) frame ms ((x + 3) % 4))
-used-head s S frame received rest ms t h b e r I room (idle-next m w) = used-idle s S frame ms (heard (s .d) received) r I room (number-heard (s .d) received) m
+    subst (λ y. Used (s .format) y (obeyed (S .here .state) (S .here .slots) frame ms y)) (sym m) (used-ack s (S .here .state) (S .here .slots) frame ms ((x + 3) % 4))
+used-head s S frame received rest ms t h b e r I room (idle-next m w) = used-idle s S frame ms (heard (s .format) received) r I room (number-heard (s .format) received) m
 
 pub used-take : (s : Settings) (S : System) (frame received : List ℕ) (rest : List (List ℕ)) (ms : ℕ) → InRange s → Inv s S → Enough S frame → S .here .queue ≡ received ∷ rest
-    → Used (s .d) (heard (s .d) received) (taken (S .here .state) (S .here .slots) frame ms received)
-unfolding taken
+    → Used (s .format) (heard (s .format) received) (frameTaken (S .here .state) (S .here .slots) frame ms received)
+unfolding frameTaken
 used-take s S frame received rest ms r I enough e =
-    subst (λ g. Used (s .d) (heard (s .d) received) (gated g l (S .here .slots) frame (obeyed l (S .here .slots) frame ms (heard (l .settings .d) received)))) (sym gate) (go (l .lost))
+    subst (λ g. Used (s .format) (heard (s .format) received) (gated g l (S .here .slots) frame (obeyed l (S .here .slots) frame ms (heard (l .settings .format) received)))) (sym gate) (go (l .lost))
   where
     l : Link
     l = S .here .state
 
-    d : l .settings .d ≡ s .d
-    d = ap (λ (x : Settings). x .d) (I .here .settings)
+    d : l .settings .format .d ≡ s .format .d
+    d = ap (λ (x : Settings). x .format .d) (I .here .settings)
 
     slots-room : slotsNeed (l .settings) ≤ length (S .here .slots)
     slots-room = rw (I .here .settings) (I .here .room)
@@ -180,13 +180,13 @@ used-take s S frame received rest ms r I enough e =
     gate : gateOf l (length (S .here .slots)) (length frame) ≡ cond (l .lost) linkLost done
     gate = sound-gate l (length (S .here .slots)) (length frame) (I .here .sound) slots-room enough
 
-    room : s .d ≤ length frame
+    room : s .format .d ≤ length frame
     room = subst (λ n. n ≤ length frame) d enough
 
-    go : (t : Bool) → Used (s .d) (heard (s .d) received) (gated (cond t linkLost done) l (S .here .slots) frame (obeyed l (S .here .slots) frame ms (heard (l .settings .d) received)))
-    go true = used-nothing (s .d) (heard (s .d) received) l (S .here .slots) frame linkLost 0 refl
-    go false = subst (λ n. Used (s .d) (heard (s .d) received) (obeyed l (S .here .slots) frame ms (heard n received))) (sym d)
-        (used-head s S frame received rest ms (S .there .takenIn) (I .gotHere) (I .freedHere) (I .gotThere) r I room (subst (λ z. Line (s .d) (S .there .takenIn) (I .gotHere) (I .freedHere) (I .gotThere) z) e (I .toHere)))
+    go : (t : Bool) → Used (s .format) (heard (s .format) received) (gated (cond t linkLost done) l (S .here .slots) frame (obeyed l (S .here .slots) frame ms (heard (l .settings .format) received)))
+    go true = used-nothing (s .format) (heard (s .format) received) l (S .here .slots) frame linkLost 0 refl
+    go false = subst (λ n. Used (s .format) (heard (s .format) received) (obeyed l (S .here .slots) frame ms (heard n received))) (sym d)
+        (used-head s S frame received rest ms (S .there .taken) (I .gotHere) (I .freedHere) (I .gotThere) r I room (subst (λ z. Line (s .format) (S .there .taken) (I .gotHere) (I .freedHere) (I .gotThere) z) e (I .toHere)))
 
 -- ---- carrying ends
 
@@ -211,18 +211,18 @@ pub record Emptied (s : Settings) (ms : ℕ) (S : System) : Type 0 where
   pub noThere : end .there .queue ≡ []
 
 -- the frame at the head is taken, and the load falls
-pub carried-less : (s : Settings) (S T : System) (ms : ℕ) → InRange s → Inv s S → Carried ms S T → loads (s .d) T + 1 ≤ loads (s .d) S
+pub carried-less : (s : Settings) (S T : System) (ms : ℕ) → InRange s → Inv s S → Carried ms S T → loads (s .format) T + 1 ≤ loads (s .format) S
 carried-less s S T ms r I (head frame received rest room e) =
-    let a : After Outcome = taken (S .here .state) (S .here .slots) frame ms received in
-    let u : Used (s .d) (heard (s .d) received) a = used-take s S frame received rest ms r I room e in
+    let a : After Outcome = frameTaken (S .here .state) (S .here .slots) frame ms received in
+    let u : Used (s .format) (heard (s .format) received) a = used-take s S frame received rest ms r I room e in
     let left : leftBy a received rest ≡ rest = rw (u .gone) in
-    omega (arith, u .less, ap (load (s .d)) left, ap (load (s .d)) e, load-append (s .d) (S .there .queue) (sentBy a))
+    omega (arith, u .less, ap (load (s .format)) left, ap (load (s .format)) e, load-append (s .format) (S .there .queue) (sentBy a))
 
 pub record Stepped (s : Settings) (ms : ℕ) (S : System) : Type 0 where
   pub end : System
   pub carried : Carried ms S end
   pub inv : Inv s end
-  pub less : loads (s .d) end + 1 ≤ loads (s .d) S
+  pub less : loads (s .format) end + 1 ≤ loads (s .format) S
 
 unfoldable pub stepped : (s : Settings) (S : System) (ms : ℕ) (received : List ℕ) (rest : List (List ℕ)) → IsClock ms → InRange s → Inv s S → S .here .queue ≡ received ∷ rest → Stepped s ms S
 stepped s S ms received rest c r I e =
@@ -237,7 +237,7 @@ stepped s S ms received rest c r I e =
 
 -- a frame of either queue is carried, if there is one, and then more
 unfoldable pub emptied-by : (s : Settings) (ms : ℕ) (S : System) → IsClock ms → InRange s → Inv s S
-    → ((T : System) → Inv s T → loads (s .d) T + 1 ≤ loads (s .d) S → Emptied s ms T) → Emptied s ms S
+    → ((T : System) → Inv s T → loads (s .format) T + 1 ≤ loads (s .format) S → Emptied s ms T) → Emptied s ms S
 emptied-by s ms S c r I more = go (S .here .queue) (S .there .queue) refl refl
   where
     go : (p q : List (List ℕ)) → S .here .queue ≡ p → S .there .queue ≡ q → Emptied s ms S
@@ -251,7 +251,7 @@ emptied-by s ms S c r I more = go (S .here .queue) (S .there .queue) refl refl
         let m : Emptied s ms (swap (k .end)) = more (swap (k .end)) (inv-swap s (k .end) (k .inv)) (omega (arith, k .less)) in
         record { end = m .end; carries = there S (swap (k .end)) (m .end) (k .carried) (m .carries); inv = m .inv; noHere = m .noHere; noThere = m .noThere }
 
-unfoldable pub emptied : (s : Settings) (n ms : ℕ) (S : System) → IsClock ms → InRange s → Inv s S → loads (s .d) S ≤ n → Emptied s ms S
+unfoldable pub emptied : (s : Settings) (n ms : ℕ) (S : System) → IsClock ms → InRange s → Inv s S → loads (s .format) S ≤ n → Emptied s ms S
 emptied s zero ms S c r I h = emptied-by s ms S c r I (λ T J less. absurd (omega (arith, less)))
 emptied s (suc n) ms S c r I h = emptied-by s ms S c r I (λ T J less. emptied s n ms T c r J (omega (arith, less)))
 
@@ -296,7 +296,7 @@ pub record ARound (s : Settings) (ms : ℕ) (S : System) : Type 0 where
 
 unfoldable pub a-round : (s : Settings) (S : System) (ms : ℕ) → IsClock ms → InRange s → Inv s S → ARound s ms S
 a-round s S ms c r I =
-    let k : Emptied s ms S = emptied s (loads (s .d) S) ms S c r I (omega arith) in
+    let k : Emptied s ms S = emptied s (loads (s .format) S) ms S c r I (omega arith) in
     let t : Moved (k .end) ms = moved s (k .end) ms r (k .inv) c in
     let now : ℕ = onward ms (t .passed) in
     let a : Watched s now (k .end) = watched s (weight (k .end .here .state)) now (k .end) (onward-clock ms (t .passed)) r (k .inv) (omega arith) in
@@ -329,7 +329,7 @@ rounds-exist s S ms n m c =
 -- ---- carrying ends in every mixture
 
 pub carries-load : (s : Settings) (S T : System) (ms : ℕ) → IsClock ms → InRange s → Inv s S → (k : Carries ms S T)
-    → carriedIn k + loads (s .d) T ≤ loads (s .d) S
+    → carriedIn k + loads (s .format) T ≤ loads (s .format) S
 carries-load s S T ms c r I (none S₁) = omega arith
 carries-load s S U ms c r I (here S₁ T U₁ k rest) =
     omega (arith, carried-less s S T ms r I k, carries-load s T U ms c r (carried-falls s S T ms c r I k .inv) rest)
@@ -339,4 +339,4 @@ carries-load s S U ms c r I (there S₁ T U₁ k rest) =
 
 pub carrying-ends : CarryingEnds
 carrying-ends s S T ms m c k =
-    omega (arith, carries-load s S T ms c (moment-range s S m) (moment-kept s S m) k, load-most (s .d) (S .here .queue), load-most (s .d) (S .there .queue))
+    omega (arith, carries-load s S T ms c (moment-range s S m) (moment-kept s S m) k, load-most (s .format) (S .here .queue), load-most (s .format) (S .there .queue))

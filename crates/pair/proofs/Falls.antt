@@ -26,9 +26,9 @@ use Rattle.state.specs.Timer.{onward}
 use Rattle.state.specs.Formed.{InRange, Sound}
 use Rattle.state.proofs.Facts.{wellFormed-facts, gateOf-facts, gated-cases, gated-open}
 use Rattle.state.proofs.Keeps.{sound-open}
-use Rattle.send.specs.Makers.{silent, ends, sends, marked, sendsRepeat}
+use Rattle.send.specs.Makers.{silent, concluded, sends, marked, sendsRepeat}
 use Rattle.receive.specs.Steps.{repeatable}
-use Rattle.receive.specs.Take.{obeyed, taken}
+use Rattle.receive.specs.Take.{obeyed, frameTaken}
 use Rattle.receive.proofs.Facts.{freed-fewer, repeatable-holds, data-taken}
 use Rattle.clock.specs.Look.{lookedOpen, looked}
 use Rattle.pair.specs.System.{System, swap, deliveredBy, takes, lookOf, looks, IsClock}
@@ -48,19 +48,19 @@ calm-same : (l : Link) (slots frame : List ℕ) (answer : ℕ) → Calm l (refus
 calm-same l slots frame answer = record { low = omega arith; few = omega arith; sticks = λ h. h }
 
 calm-nak : (l : Link) (slots frame : List ℕ) (answer : ℕ) (t : Bool)
-    → Calm l (ends (cond t (silent l frame) (sends (marked l) (nakFrame ((lastCorrect l + 1) % 4)) frame)) answer 0 slots) 0
+    → Calm l (concluded (cond t (silent l frame) (sends (marked l) (nakFrame ((lastCorrect l + 1) % 4)) frame)) answer 0 slots) 0
 calm-nak l slots frame answer true = record { low = omega arith; few = omega arith; sticks = λ h. h }
 calm-nak l slots frame answer false = record { low = omega arith; few = omega arith; sticks = λ h. h }
 
 calm-idle : (l : Link) (slots frame : List ℕ) (ms : ℕ) (h : Heard) → Sound l → acknowledgedIn h ≤ 3 → Idle h → Calm l (obeyed l slots frame ms h) 0
 unfolding obeyed
-calm-idle l slots frame ms Size s small by-size = calm-nak l slots frame 6 (l .naked)
-calm-idle l slots frame ms Sum s small by-sum = calm-nak l slots frame 6 (l .naked)
+calm-idle l slots frame ms Size s small by-size = calm-nak l slots frame 6 (l .nakmark)
+calm-idle l slots frame ms Sum s small by-sum = calm-nak l slots frame 6 (l .nakmark)
 calm-idle l slots frame ms (Nak k) s small (a-nak k₁) = go (repeatable l k) refl
   where
-    go : (t : Bool) → repeatable l k ≡ t → Calm l (ends (cond t (sendsRepeat l slots frame ms k) (silent l frame)) done 0 slots) 0
+    go : (t : Bool) → repeatable l k ≡ t → Calm l (concluded (cond t (sendsRepeat l slots frame ms k) (silent l frame)) done 0 slots) 0
     go true e =
-        repeatable-holds (λ n. Calm l (ends (sendsRepeat l slots frame ms n) done 0 slots) 0) l k (wellFormed-facts l (s .formed) .next) small e
+        repeatable-holds (λ n. Calm l (concluded (sendsRepeat l slots frame ms n) done 0 slots) 0) l k (wellFormed-facts l (s .formed) .next) small e
         (λ j wait may. record { low = omega (arith, again-weight l ms j s wait may); few = omega arith; sticks = λ h. h })
     go false e = record { low = omega arith; few = omega arith; sticks = λ h. h }
 
@@ -79,8 +79,8 @@ calm-more : (l : Link) (a : After Outcome) (n : ℕ) → Calm l a 0 → Calm l a
 calm-more l a n c = record { low = omega (arith, c .low); few = c .few; sticks = c .sticks }
 
 calm-head : (s : Settings) (S : System) (frame received : List ℕ) (rest : List (List ℕ)) (ms : ℕ) (t : List (List ℕ)) (h b e : ℕ) → Sound (S .here .state)
-    → Line (s .d) t h b e (received ∷ rest)
-    → Calm (S .here .state) (obeyed (S .here .state) (S .here .slots) frame ms (heard (s .d) received)) (got (obeyed (S .here .state) (S .here .slots) frame ms (heard (s .d) received)) received)
+    → Line (s .format) t h b e (received ∷ rest)
+    → Calm (S .here .state) (obeyed (S .here .state) (S .here .slots) frame ms (heard (s .format) received)) (got (obeyed (S .here .state) (S .here .slots) frame ms (heard (s .format) received)) received)
 calm-head s S frame received rest ms t h b e k (data-next f x len m p lo u v w) =
     subst (λ y. Calm (S .here .state) (obeyed (S .here .state) (S .here .slots) frame ms y) (got (obeyed (S .here .state) (S .here .slots) frame ms y) received)) (sym m)
     (calm-data (S .here .state) (S .here .slots) frame received ms (f % 4) ((x + 3) % 4) len lo)
@@ -88,16 +88,16 @@ calm-head s S frame received rest ms t h b e k (ack-next x m v w) =
     subst (λ y. Calm (S .here .state) (obeyed (S .here .state) (S .here .slots) frame ms y) (got (obeyed (S .here .state) (S .here .slots) frame ms y) received)) (sym m)
     (calm-more (S .here .state) _ _ (calm-ack (S .here .state) (S .here .slots) frame ms ((x + 3) % 4)))
 calm-head s S frame received rest ms t h b e k (idle-next m w) =
-    calm-more (S .here .state) _ _ (calm-idle (S .here .state) (S .here .slots) frame ms (heard (s .d) received) k (number-heard (s .d) received) m)
+    calm-more (S .here .state) _ _ (calm-idle (S .here .state) (S .here .slots) frame ms (heard (s .format) received) k (number-heard (s .format) received) m)
 
 calm-take : (s : Settings) (S : System) (frame received : List ℕ) (rest : List (List ℕ)) (ms : ℕ) → S .here .queue ≡ received ∷ rest → Inv s S
-    → Calm (S .here .state) (taken (S .here .state) (S .here .slots) frame ms received) (got (taken (S .here .state) (S .here .slots) frame ms received) received)
-unfolding taken
+    → Calm (S .here .state) (frameTaken (S .here .state) (S .here .slots) frame ms received) (got (frameTaken (S .here .state) (S .here .slots) frame ms received) received)
+unfolding frameTaken
 calm-take s S frame received rest ms e I =
-    gated-cases (λ a. Calm l a (got a received)) (gateOf l (length (S .here .slots)) (length frame)) l (S .here .slots) frame (obeyed l (S .here .slots) frame ms (heard (l .settings .d) received))
-    (λ q. subst (λ (x : Settings). Calm l (obeyed l (S .here .slots) frame ms (heard (x .d) received)) (got (obeyed l (S .here .slots) frame ms (heard (x .d) received)) received)) (sym (I .here .settings))
-    (calm-head s S frame received rest ms (S .there .takenIn) (I .gotHere) (I .freedHere) (I .gotThere) (I .here .sound)
-    (subst (λ z. Line (s .d) (S .there .takenIn) (I .gotHere) (I .freedHere) (I .gotThere) z) e (I .toHere))))
+    gated-cases (λ a. Calm l a (got a received)) (gateOf l (length (S .here .slots)) (length frame)) l (S .here .slots) frame (obeyed l (S .here .slots) frame ms (heard (l .settings .format) received))
+    (λ q. subst (λ (x : Settings). Calm l (obeyed l (S .here .slots) frame ms (heard (x .format) received)) (got (obeyed l (S .here .slots) frame ms (heard (x .format) received)) received)) (sym (I .here .settings))
+    (calm-head s S frame received rest ms (S .there .taken) (I .gotHere) (I .freedHere) (I .gotThere) (I .here .sound)
+    (subst (λ z. Line (s .format) (S .there .taken) (I .gotHere) (I .freedHere) (I .gotThere) z) e (I .toHere))))
     (λ n. calm-same l (S .here .slots) frame (gateOf l (length (S .here .slots)) (length frame)))
   where
     l : Link
@@ -106,7 +106,7 @@ calm-take s S frame received rest ms e I =
 -- ---- the measure
 
 abbrev pub Φ : System → ℕ
-Φ S = weight (S .here .state) + weight (S .there .state) + (length (S .here .takenIn) - length (S .there .delivered)) + (length (S .there .takenIn) - length (S .here .delivered))
+Φ S = weight (S .here .state) + weight (S .there .state) + (length (S .here .taken) - length (S .there .delivered)) + (length (S .there .taken) - length (S .here .delivered))
 
 -- from S to T nothing grew, and a lost end stayed lost
 pub record Falls (s : Settings) (S T : System) : Type 0 where
@@ -137,12 +137,12 @@ falls-trans s S T U F G = record {
 
 pub carried-falls : (s : Settings) (S T : System) (ms : ℕ) → IsClock ms → InRange s → Inv s S → Carried ms S T → Falls s S T
 carried-falls s S T ms c r I (head frame received rest enough e) =
-    let a : After Outcome = taken (S .here .state) (S .here .slots) frame ms received in
+    let a : After Outcome = frameTaken (S .here .state) (S .here .slots) frame ms received in
     let J : Inv s (takes S frame ms received rest) = take-kept s S frame received rest ms c r e I in
     let k : Calm (S .here .state) a (got a received) = calm-take s S frame received rest ms e I in
     record {
       inv = J;
-      low = omega (arith, k .low, length-append (S .here .delivered) (deliveredBy a received), length-append (S .here .takenIn) [], J .here .count, line-taken (s .d) (S .there .takenIn) _ (J .toHere));
+      low = omega (arith, k .low, length-append (S .here .delivered) (deliveredBy a received), length-append (S .here .taken) [], J .here .count, line-taken (s .format) (S .there .taken) _ (J .toHere));
       fewHere = k .few;
       fewThere = omega arith;
       lostHere = k .sticks;
@@ -188,7 +188,7 @@ look-falls s S frame ms c r I enough =
     let k = look-does s S frame ms I enough in
     record {
       inv = look-kept s S frame ms c r I;
-      low = omega (arith, k .low, length-append (S .here .delivered) [], length-append (S .here .takenIn) []);
+      low = omega (arith, k .low, length-append (S .here .delivered) [], length-append (S .here .taken) []);
       fewHere = k .few;
       fewThere = omega arith;
       lostHere = k .sticks;
@@ -200,7 +200,7 @@ look-sent : (s : Settings) (S : System) (frame : List ℕ) (ms : ℕ) → Inv s 
 look-sent s S frame ms I enough n =
     let k = look-does s S frame ms I enough in
     let one : bit (not (eqb (lookOf S frame ms .told .sent) 0)) ≡ 1 = ap (λ (t : Bool). bit (not t)) (ne-eqb (lookOf S frame ms .told .sent) 0 n) in
-    omega (arith, k .low, length-append (S .here .delivered) [], length-append (S .here .takenIn) [])
+    omega (arith, k .low, length-append (S .here .delivered) [], length-append (S .here .taken) [])
 
 -- what would have stayed lost was not lost
 not-lost : (before after : Bool) → after ≡ false → (before ≡ true → after ≡ true) → before ≡ false
@@ -348,24 +348,24 @@ pub Φ-bound : (s : Settings) (S : System) → InRange s → Inv s S → Φ S �
       spare-bound (S .there .state) (S .there .state .waiting) y,
       bit-small (S .here .state .acking),
       bit-small (S .there .state .acking),
-      window-small s (S .here) (S .there .takenIn) (I .freedHere) (I .gotHere) (I .here),
-      window-small s (S .there) (S .here .takenIn) (I .freedThere) (I .gotThere) (I .there),
+      window-small s (S .here) (S .there .taken) (I .freedHere) (I .gotHere) (I .here),
+      window-small s (S .there) (S .here .taken) (I .freedThere) (I .gotThere) (I .there),
       I .here .window,
       I .there .window,
       I .here .count,
       I .there .count,
-      line-freed (s .d) (S .there .takenIn) (S .here .queue) (I .toHere),
-      line-freed (s .d) (S .here .takenIn) (S .there .queue) (I .toThere),
+      line-freed (s .format) (S .there .taken) (S .here .queue) (I .toHere),
+      line-freed (s .format) (S .here .taken) (S .there .queue) (I .toThere),
     )
 
 -- empty windows: everything is through
 empty-through : (s : Settings) (S : System) → Inv s S → Empty S → Through S
 empty-through s S I e =
-    let a : length (S .here .takenIn) ≤ I .gotThere = omega (arith, I .here .window, e .here, line-freed (s .d) (S .there .takenIn) (S .here .queue) (I .toHere)) in
-    let b : length (S .there .takenIn) ≤ I .gotHere = omega (arith, I .there .window, e .there, line-freed (s .d) (S .here .takenIn) (S .there .queue) (I .toThere)) in
+    let a : length (S .here .taken) ≤ I .gotThere = omega (arith, I .here .window, e .here, line-freed (s .format) (S .there .taken) (S .here .queue) (I .toHere)) in
+    let b : length (S .there .taken) ≤ I .gotHere = omega (arith, I .there .window, e .there, line-freed (s .format) (S .here .taken) (S .there .queue) (I .toThere)) in
     record {
-      forth = I .there .first ∙ take-all (I .gotThere) (S .here .takenIn) a;
-      back = I .here .first ∙ take-all (I .gotHere) (S .there .takenIn) b;
+      forth = I .there .first ∙ take-all (I .gotThere) (S .here .taken) a;
+      back = I .here .first ∙ take-all (I .gotHere) (S .there .taken) b;
       window-here = e .here;
       window-there = e .there;
     }

@@ -42,22 +42,22 @@ pub record Way (s : Settings) (x : Side) (t : List (List ℕ)) (b g : ℕ) : Typ
   pub timed : Timed (x .state)
   pub settings : x .state .settings ≡ s
   pub room : slotsNeed s ≤ length (x .slots)
-  pub next : x .state .next ≡ length (x .takenIn) % 4
-  pub window : b + x .state .waiting ≡ length (x .takenIn)
+  pub next : x .state .next ≡ length (x .taken) % 4
+  pub window : b + x .state .waiting ≡ length (x .taken)
   pub expected : x .state .expected ≡ g % 4
   pub count : length (x .delivered) ≡ g
   pub first : x .delivered ≡ take g t
-  pub holds : (f : ℕ) → b ≤ f → f < length (x .takenIn) → packetOf (x .state) (x .slots) (f % 4) ≡ getD (x .takenIn) f []
+  pub holds : (f : ℕ) → b ≤ f → f < length (x .taken) → packetOf (x .state) (x .slots) (f % 4) ≡ getD (x .taken) f []
 
 pub record Inv (s : Settings) (S : System) : Type 0 where
   pub freedHere : ℕ
   pub freedThere : ℕ
   pub gotHere : ℕ
   pub gotThere : ℕ
-  pub here : Way s (S .here) (S .there .takenIn) freedHere gotHere
-  pub there : Way s (S .there) (S .here .takenIn) freedThere gotThere
-  pub toHere : Line (s .d) (S .there .takenIn) gotHere freedHere gotThere (S .here .queue)
-  pub toThere : Line (s .d) (S .here .takenIn) gotThere freedThere gotHere (S .there .queue)
+  pub here : Way s (S .here) (S .there .taken) freedHere gotHere
+  pub there : Way s (S .there) (S .here .taken) freedThere gotThere
+  pub toHere : Line (s .format) (S .there .taken) gotHere freedHere gotThere (S .here .queue)
+  pub toThere : Line (s .format) (S .here .taken) gotThere freedThere gotHere (S .there .queue)
 
 pub inv-swap : (s : Settings) (S : System) → Inv s S → Inv s (swap S)
 inv-swap s S I = record {
@@ -76,21 +76,21 @@ inv-swap s S I = record {
 -- here another state, its queue, and frames sent
 abbrev pub turned : System → Link → List (List ℕ) → List (List ℕ) → System
 turned S l queue sent = record {
-  here = record { state = l; slots = S .here .slots; queue = queue; takenIn = S .here .takenIn; delivered = S .here .delivered };
+  here = record { state = l; slots = S .here .slots; queue = queue; taken = S .here .taken; delivered = S .here .delivered };
   there = record {
     state = S .there .state;
     slots = S .there .slots;
     queue = queued (S .there .queue) sent;
-    takenIn = S .there .takenIn;
+    taken = S .there .taken;
     delivered = S .there .delivered;
   };
 }
 
-pub way-changed : (s : Settings) (x : Side) (t : List (List ℕ)) (b g : ℕ) (starts counts : List ℕ) (ackstart : ℕ) (acking naked lost : Bool) (queue : List (List ℕ))
-    → Way s x t b g → Sound (changed (x .state) starts counts ackstart (x .state .expected) (x .state .waiting) acking naked lost)
-    → Timed (changed (x .state) starts counts ackstart (x .state .expected) (x .state .waiting) acking naked lost)
-    → Way s (record { state = changed (x .state) starts counts ackstart (x .state .expected) (x .state .waiting) acking naked lost; slots = x .slots; queue = queue; takenIn = x .takenIn; delivered = x .delivered }) t b g
-way-changed s x t b g starts counts ackstart acking naked lost queue w k c = record {
+pub way-changed : (s : Settings) (x : Side) (t : List (List ℕ)) (b g : ℕ) (starts repeated : List ℕ) (ackstart : ℕ) (acking nakmark lost : Bool) (queue : List (List ℕ))
+    → Way s x t b g → Sound (changed (x .state) starts repeated ackstart (x .state .expected) (x .state .waiting) acking nakmark lost)
+    → Timed (changed (x .state) starts repeated ackstart (x .state .expected) (x .state .waiting) acking nakmark lost)
+    → Way s (record { state = changed (x .state) starts repeated ackstart (x .state .expected) (x .state .waiting) acking nakmark lost; slots = x .slots; queue = queue; taken = x .taken; delivered = x .delivered }) t b g
+way-changed s x t b g starts repeated ackstart acking nakmark lost queue w k c = record {
   sound = k;
   timed = c;
   settings = w .settings;
@@ -104,9 +104,9 @@ way-changed s x t b g starts counts ackstart acking naked lost queue w k c = rec
 }
 
 way-there : (s : Settings) (x : Side) (t : List (List ℕ)) (b g : ℕ) (queue : List (List ℕ)) → Way s x t b g
-    → Way s (record { state = x .state; slots = x .slots; queue = queue; takenIn = x .takenIn; delivered = x .delivered }) t b g
+    → Way s (record { state = x .state; slots = x .slots; queue = queue; taken = x .taken; delivered = x .delivered }) t b g
 way-there s x t b g queue w =
-    way-changed s x t b g (x .state .starts) (x .state .counts) (x .state .ackstart) (x .state .acking) (x .state .naked) (x .state .lost) queue w (w .sound) (w .timed)
+    way-changed s x t b g (x .state .starts) (x .state .repeated) (x .state .ackstart) (x .state .acking) (x .state .nakmark) (x .state .lost) queue w (w .sound) (w .timed)
 
 -- ---- step 6
 
@@ -126,37 +126,37 @@ freed-window l n b x e w small lo hi =
 -- here another state and another queue
 abbrev pub restated : System → Link → List (List ℕ) → System
 restated S l queue = record {
-  here = record { state = l; slots = S .here .slots; queue = queue; takenIn = S .here .takenIn; delivered = S .here .delivered };
+  here = record { state = l; slots = S .here .slots; queue = queue; taken = S .here .taken; delivered = S .here .delivered };
   there = S .there;
 }
 
 -- marks, timers and counts change, and frames are sent
-pub inv-turned : (s : Settings) (S : System) (starts counts : List ℕ) (ackstart : ℕ) (acking naked lost : Bool) (sent : List (List ℕ)) (I : Inv s S)
-    → Sound (changed (S .here .state) starts counts ackstart (S .here .state .expected) (S .here .state .waiting) acking naked lost)
-    → Timed (changed (S .here .state) starts counts ackstart (S .here .state .expected) (S .here .state .waiting) acking naked lost)
-    → Line (s .d) (S .here .takenIn) (I .gotThere) (I .freedThere) (I .gotHere) (queued (S .there .queue) sent)
-    → Inv s (turned S (changed (S .here .state) starts counts ackstart (S .here .state .expected) (S .here .state .waiting) acking naked lost) (S .here .queue) sent)
-inv-turned s S starts counts ackstart acking naked lost sent I k c w = record {
+pub inv-turned : (s : Settings) (S : System) (starts repeated : List ℕ) (ackstart : ℕ) (acking nakmark lost : Bool) (sent : List (List ℕ)) (I : Inv s S)
+    → Sound (changed (S .here .state) starts repeated ackstart (S .here .state .expected) (S .here .state .waiting) acking nakmark lost)
+    → Timed (changed (S .here .state) starts repeated ackstart (S .here .state .expected) (S .here .state .waiting) acking nakmark lost)
+    → Line (s .format) (S .here .taken) (I .gotThere) (I .freedThere) (I .gotHere) (queued (S .there .queue) sent)
+    → Inv s (turned S (changed (S .here .state) starts repeated ackstart (S .here .state .expected) (S .here .state .waiting) acking nakmark lost) (S .here .queue) sent)
+inv-turned s S starts repeated ackstart acking nakmark lost sent I k c w = record {
   freedHere = I .freedHere;
   freedThere = I .freedThere;
   gotHere = I .gotHere;
   gotThere = I .gotThere;
-  here = way-changed s (S .here) (S .there .takenIn) (I .freedHere) (I .gotHere) starts counts ackstart acking naked lost (S .here .queue) (I .here) k
+  here = way-changed s (S .here) (S .there .taken) (I .freedHere) (I .gotHere) starts repeated ackstart acking nakmark lost (S .here .queue) (I .here) k
       c;
-  there = way-there s (S .there) (S .here .takenIn) (I .freedThere) (I .gotThere) (queued (S .there .queue) sent) (I .there);
+  there = way-there s (S .there) (S .here .taken) (I .freedThere) (I .gotThere) (queued (S .there .queue) sent) (I .there);
   toHere = I .toHere;
   toThere = w;
 }
 
 -- only the queue changes, to one that may stand there
-inv-queue : (s : Settings) (S : System) (q : List (List ℕ)) (I : Inv s S) → Line (s .d) (S .there .takenIn) (I .gotHere) (I .freedHere) (I .gotThere) q
+inv-queue : (s : Settings) (S : System) (q : List (List ℕ)) (I : Inv s S) → Line (s .format) (S .there .taken) (I .gotHere) (I .freedHere) (I .gotThere) q
     → Inv s (restated S (S .here .state) q)
 inv-queue s S q I w = record {
   freedHere = I .freedHere;
   freedThere = I .freedThere;
   gotHere = I .gotHere;
   gotThere = I .gotThere;
-  here = way-there s (S .here) (S .there .takenIn) (I .freedHere) (I .gotHere) q (I .here);
+  here = way-there s (S .here) (S .there .taken) (I .freedHere) (I .gotHere) q (I .here);
   there = I .there;
   toHere = w;
   toThere = I .toThere;
@@ -165,18 +165,18 @@ inv-queue s S q I w = record {
 -- the head of the queue is passed over
 pub inv-passed : (s : Settings) (S : System) (frame : List ℕ) (q : List (List ℕ)) → S .here .queue ≡ frame ∷ q → Inv s S → Inv s (restated S (S .here .state) q)
 inv-passed s S frame q e I =
-    inv-queue s S q I (line-tail (s .d) (S .there .takenIn) frame q (subst (λ z. Line (s .d) (S .there .takenIn) (I .gotHere) (I .freedHere) (I .gotThere) z) e (I .toHere)))
+    inv-queue s S q I (line-tail (s .format) (S .there .taken) frame q (subst (λ z. Line (s .format) (S .there .taken) (I .gotHere) (I .freedHere) (I .gotThere) z) e (I .toHere)))
 
 -- a frame of it is lost or damaged
-pub inv-harm : (s : Settings) (S : System) (q : List (List ℕ)) → Harm (s .d) (S .here .queue) q → Inv s S → Inv s (restated S (S .here .state) q)
-inv-harm s S q k I = inv-queue s S q I (line-harm (s .d) (S .there .takenIn) (S .here .queue) q k (I .toHere))
+pub inv-harm : (s : Settings) (S : System) (q : List (List ℕ)) → Harm (s .format) (S .here .queue) q → Inv s S → Inv s (restated S (S .here .state) q)
+inv-harm s S q k I = inv-queue s S q I (line-harm (s .format) (S .there .taken) (S .here .queue) q k (I .toHere))
 
 -- x packets of this end have arrived: those up to x are freed
 pub inv-freed : (s : Settings) (S : System) (x : ℕ) (q : List (List ℕ)) (I : Inv s S) → I .freedHere ≤ x
-    → Line (s .d) (S .there .takenIn) (I .gotHere) x (I .gotThere) q → Inv s (restated S (freed (S .here .state) ((x + 3) % 4)) q)
+    → Line (s .format) (S .there .taken) (I .gotHere) x (I .gotThere) q → Inv s (restated S (freed (S .here .state) ((x + 3) % 4)) q)
 inv-freed s S x q I lo w =
     let l : Link = S .here .state in
-    let hi : x ≤ length (S .here .takenIn) = omega (arith, line-freed (s .d) (S .there .takenIn) q w, line-taken (s .d) (S .here .takenIn) (S .there .queue) (I .toThere)) in
+    let hi : x ≤ length (S .here .taken) = omega (arith, line-freed (s .format) (S .there .taken) q w, line-taken (s .format) (S .here .taken) (S .there .queue) (I .toThere)) in
     record {
       freedHere = x;
       freedThere = I .freedThere;
@@ -188,8 +188,8 @@ inv-freed s S x q I lo w =
         settings = I .here .settings;
         room = I .here .room;
         next = I .here .next;
-        window = freed-window l (length (S .here .takenIn)) (I .freedHere) x (I .here .next) (I .here .window)
-            (window-small s (S .here) (S .there .takenIn) (I .freedHere) (I .gotHere) (I .here)) lo hi;
+        window = freed-window l (length (S .here .taken)) (I .freedHere) x (I .here .next) (I .here .window)
+            (window-small s (S .here) (S .there .taken) (I .freedHere) (I .gotHere) (I .here)) lo hi;
         expected = I .here .expected;
         count = I .here .count;
         first = I .here .first;
@@ -203,18 +203,18 @@ inv-freed s S x q I lo w =
 -- so too where the expected packet is delivered
 abbrev pub delivering : System → Link → List (List ℕ) → List ℕ → System
 delivering S l queue packet = record {
-  here = record { state = l; slots = S .here .slots; queue = queue; takenIn = S .here .takenIn; delivered = S .here .delivered ++ (packet ∷ []) };
+  here = record { state = l; slots = S .here .slots; queue = queue; taken = S .here .taken; delivered = S .here .delivered ++ (packet ∷ []) };
   there = S .there;
 }
 
-pub inv-delivered : (s : Settings) (S : System) (ms x : ℕ) (q : List (List ℕ)) (packet : List ℕ) (I : Inv s S) → IsClock ms → I .freedHere ≤ x → I .gotHere < length (S .there .takenIn)
-    → packet ≡ getD (S .there .takenIn) (I .gotHere) [] → Line (s .d) (S .there .takenIn) (suc (I .gotHere)) x (I .gotThere) q
+pub inv-delivered : (s : Settings) (S : System) (ms x : ℕ) (q : List (List ℕ)) (packet : List ℕ) (I : Inv s S) → IsClock ms → I .freedHere ≤ x → I .gotHere < length (S .there .taken)
+    → packet ≡ getD (S .there .taken) (I .gotHere) [] → Line (s .format) (S .there .taken) (suc (I .gotHere)) x (I .gotThere) q
     → Inv s (delivering S (afterDelivery (freed (S .here .state) ((x + 3) % 4)) ms) q packet)
 inv-delivered s S ms x q packet I c lo more p w =
-    let t : List (List ℕ) = S .there .takenIn in
+    let t : List (List ℕ) = S .there .taken in
     let l : Link = S .here .state in
     let g : ℕ = I .gotHere in
-    let hi : x ≤ length (S .here .takenIn) = omega (arith, line-freed (s .d) t q w, line-taken (s .d) (S .here .takenIn) (S .there .queue) (I .toThere)) in
+    let hi : x ≤ length (S .here .taken) = omega (arith, line-freed (s .format) t q w, line-taken (s .format) (S .here .taken) (S .there .queue) (I .toThere)) in
     record {
       freedHere = x;
       freedThere = I .freedThere;
@@ -226,7 +226,7 @@ inv-delivered s S ms x q packet I c lo more p w =
         settings = I .here .settings;
         room = I .here .room;
         next = I .here .next;
-        window = freed-window l (length (S .here .takenIn)) (I .freedHere) x (I .here .next) (I .here .window)
+        window = freed-window l (length (S .here .taken)) (I .freedHere) x (I .here .next) (I .here .window)
             (window-small s (S .here) t (I .freedHere) g (I .here)) lo hi;
         expected = omega (arith, I .here .expected);
         count = rw length-append (omega (arith, I .here .count));
@@ -235,19 +235,19 @@ inv-delivered s S ms x q packet I c lo more p w =
       };
       there = I .there;
       toHere = w;
-      toThere = line-mono (s .d) (S .here .takenIn) {h = I .gotThere} {b = I .freedThere} {e = g} {h₁ = I .gotThere} {b₁ = I .freedThere} {e₁ = suc g} (S .there .queue) (omega arith) (omega arith) (omega arith) (I .toThere);
+      toThere = line-mono (s .format) (S .here .taken) {h = I .gotThere} {b = I .freedThere} {e = g} {h₁ = I .gotThere} {b₁ = I .freedThere} {e₁ = suc g} (S .there .queue) (omega arith) (omega arith) (omega arith) (I .toThere);
     }
 
 -- ---- one more packet taken
 
 abbrev pub adding : System → Link → List ℕ → List ℕ → List (List ℕ) → System
 adding S l slots packet sent = record {
-  here = record { state = l; slots = slots; queue = S .here .queue; takenIn = S .here .takenIn ++ (packet ∷ []); delivered = S .here .delivered };
+  here = record { state = l; slots = slots; queue = S .here .queue; taken = S .here .taken ++ (packet ∷ []); delivered = S .here .delivered };
   there = record {
     state = S .there .state;
     slots = S .there .slots;
     queue = queued (S .there .queue) sent;
-    takenIn = S .there .takenIn;
+    taken = S .there .taken;
     delivered = S .there .delivered;
   };
 }
@@ -255,15 +255,15 @@ adding S l slots packet sent = record {
 -- where it is added, each waiting packet stands in its slot
 added-holds : (s : Settings) (x : Side) (t : List (List ℕ)) (b g : ℕ) (packet : List ℕ) (ms : ℕ) → Way s x t b g
     → length packet ≤ limitOf (x .state .settings) → x .state .waiting < x .state .settings .window
-    → (f : ℕ) → b ≤ f → f < length (x .takenIn ++ (packet ∷ []))
-    → packetOf (sentFirst (x .state) ms (length packet)) (put (x .slots) (partOf (x .state) (x .state .next)) packet) (f % 4) ≡ getD (x .takenIn ++ (packet ∷ [])) f []
+    → (f : ℕ) → b ≤ f → f < length (x .taken ++ (packet ∷ []))
+    → packetOf (sentFirst (x .state) ms (length packet)) (put (x .slots) (partOf (x .state) (x .state .next)) packet) (f % 4) ≡ getD (x .taken ++ (packet ∷ [])) f []
 added-holds s x t b g packet ms w hi place f lo lt = go (eqb f n) refl
   where
     l : Link
     l = x .state
 
     n : ℕ
-    n = length (x .takenIn)
+    n = length (x .taken)
 
     formed : Formed l
     formed = wellFormed-facts l (w .sound .formed)
@@ -272,7 +272,7 @@ added-holds s x t b g packet ms w hi place f lo lt = go (eqb f n) refl
     slots-room = rw (w .settings) (w .room)
 
     go : (y : Bool) → eqb f n ≡ y
-        → packetOf (sentFirst l ms (length packet)) (put (x .slots) (partOf l (l .next)) packet) (f % 4) ≡ getD (x .takenIn ++ (packet ∷ [])) f []
+        → packetOf (sentFirst l ms (length packet)) (put (x .slots) (partOf l (l .next)) packet) (f % 4) ≡ getD (x .taken ++ (packet ∷ [])) f []
     go true e =
         let at : f ≡ n = eqb-true f n e in
         let number : f % 4 ≡ l .next = omega (arith, w .next) in
@@ -280,9 +280,9 @@ added-holds s x t b g packet ms w hi place f lo lt = go (eqb f n) refl
         let part : partOf l (l .next) ≤ length (x .slots) =
         omega (arith, part-inside (slotOf l (l .next)) (l .settings .window) (limitOf (l .settings)) 0 (length (x .slots)) (slotOf-lt l (l .next) (formed .settings .window-lo)) (omega arith) slots-room) in
         rw (number) (new-packet l (x .slots) [] packet ms slot part)
-        ∙ sym (ap (λ (k : ℕ). getD (x .takenIn ++ (packet ∷ [])) k []) at ∙ getD-append-seam (x .takenIn) packet [] [])
+        ∙ sym (ap (λ (k : ℕ). getD (x .taken ++ (packet ∷ [])) k []) at ∙ getD-append-seam (x .taken) packet [] [])
     go false e =
-        let longer : length (x .takenIn ++ (packet ∷ [])) ≡ n + 1 = length-append (x .takenIn) (packet ∷ []) in
+        let longer : length (x .taken ++ (packet ∷ [])) ≡ n + 1 = length-append (x .taken) (packet ∷ []) in
         let below : f < n = omega (arith, eqb-false f n e) in
         let two : l .settings .window ≡ 2 = omega (arith, w .window, formed .settings .window-hi) in
         let number : sentBefore l 0 ≡ f % 4 = omega (arith, w .next, w .window, formed .settings .window-hi) in
@@ -290,19 +290,19 @@ added-holds s x t b g packet ms w hi place f lo lt = go (eqb f n) refl
         let room2 : 2 * limitOf (l .settings) ≤ length (x .slots) = subst (λ k. k * limitOf (l .settings) ≤ length (x .slots)) two slots-room in
         old-packet l (x .slots) packet ms (f % 4) two (slots-apart l (f % 4) two number) len hi room2
         ∙ w .holds f lo below
-        ∙ sym (List·getD-append (x .takenIn) (packet ∷ []) [] f below)
+        ∙ sym (List·getD-append (x .taken) (packet ∷ []) [] f below)
 
 pub inv-added : (s : Settings) (S : System) (packet frame : List ℕ) (ms : ℕ) (I : Inv s S) → IsClock ms → Sound (sentFirst (S .here .state) ms (length packet))
     → 1 ≤ length packet → length packet ≤ limitOf (S .here .state .settings) → S .here .state .waiting < S .here .state .settings .window
     → length (put (S .here .slots) (partOf (S .here .state) (S .here .state .next)) packet) ≡ length (S .here .slots)
-    → heard (s .d) frame ≡ Data (S .here .state .next) false ((I .gotHere + 3) % 4) (length packet) → packetIn frame (length packet) ≡ packet
+    → heard (s .format) frame ≡ Data (S .here .state .next) false ((I .gotHere + 3) % 4) (length packet) → packetIn frame (length packet) ≡ packet
     → Inv s (adding S (sentFirst (S .here .state) ms (length packet)) (put (S .here .slots) (partOf (S .here .state) (S .here .state .next)) packet) packet (frame ∷ []))
 inv-added s S packet frame ms I c k lo hi place same m p =
-    let t : List (List ℕ) = S .here .takenIn in
+    let t : List (List ℕ) = S .here .taken in
     let n : ℕ = length t in
     let longer : length (t ++ (packet ∷ [])) ≡ n + 1 = length-append t (packet ∷ []) in
-    let reached : I .gotThere ≤ n = line-taken (s .d) t (S .there .queue) (I .toThere) in
-    let read : heard (s .d) frame ≡ Data (n % 4) false ((I .gotHere + 3) % 4) (length packet) = m ∙ ap (λ (x : ℕ). Data x false ((I .gotHere + 3) % 4) (length packet)) (I .here .next) in
+    let reached : I .gotThere ≤ n = line-taken (s .format) t (S .there .queue) (I .toThere) in
+    let read : heard (s .format) frame ≡ Data (n % 4) false ((I .gotHere + 3) % 4) (length packet) = m ∙ ap (λ (x : ℕ). Data x false ((I .gotHere + 3) % 4) (length packet)) (I .here .next) in
     let got : packetIn frame (length packet) ≡ getD (t ++ (packet ∷ [])) n [] = p ∙ sym (getD-append-seam t packet [] []) in
     record {
       freedHere = I .freedHere;
@@ -319,7 +319,7 @@ inv-added s S packet frame ms I c k lo hi place same m p =
         expected = I .here .expected;
         count = I .here .count;
         first = I .here .first;
-        holds = added-holds s (S .here) (S .there .takenIn) (I .freedHere) (I .gotHere) packet ms (I .here) hi place;
+        holds = added-holds s (S .here) (S .there .taken) (I .freedHere) (I .gotHere) packet ms (I .here) hi place;
       };
       there = record {
         sound = I .there .sound;
@@ -334,8 +334,8 @@ inv-added s S packet frame ms I c k lo hi place same m p =
         holds = I .there .holds;
       };
       toHere = I .toHere;
-      toThere = line-data (s .d) (t ++ (packet ∷ [])) n (length packet) frame (S .there .queue) read got lo (rw longer (omega arith)) (rw longer (omega arith))
-          (line-more (s .d) t packet (S .there .queue) (I .toThere));
+      toThere = line-data (s .format) (t ++ (packet ∷ [])) n (length packet) frame (S .there .queue) read got lo (rw longer (omega arith)) (rw longer (omega arith))
+          (line-more (s .format) t packet (S .there .queue) (I .toThere));
     }
 
 -- ---- the start
@@ -374,5 +374,5 @@ inv-start s slots slots2 r h k = record {
 }
 
 -- the first half, of what holds
-pub inv-first : (s : Settings) (S : System) → Inv s S → FirstSoManyOf (S .there .delivered) (S .here .takenIn) × FirstSoManyOf (S .here .delivered) (S .there .takenIn)
+pub inv-first : (s : Settings) (S : System) → Inv s S → FirstSoManyOf (S .there .delivered) (S .here .taken) × FirstSoManyOf (S .here .delivered) (S .there .taken)
 inv-first s S I = (rw (I .there .count) (I .there .first), rw (I .here .count) (I .here .first))

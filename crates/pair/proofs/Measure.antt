@@ -15,13 +15,13 @@ use Rattle.frame.specs.Bytes.{frameOf, dataFrame}
 use Rattle.frame.proofs.Writing.{frameOf-length}
 use Rattle.state.specs.declared.Link.{Link}
 use Rattle.state.specs.declared.Outcome.{Outcome}
-use Rattle.state.specs.State.{lastCorrect, sentBefore, slotOf, countOf, startOf}
+use Rattle.state.specs.State.{lastCorrect, sentBefore, slotOf, repeatedOf, startOf}
 use Rattle.state.specs.Gate.{After, refused}
 use Rattle.state.specs.Timer.{due}
 use Rattle.state.specs.Formed.{Formed, Sound}
 use Rattle.state.proofs.Facts.{wellFormed-facts, slotOf-small}
 use Rattle.send.specs.Repeat.{packetOf, again, mayRepeat}
-use Rattle.send.specs.Makers.{ends, sendsRepeat}
+use Rattle.send.specs.Makers.{concluded, sendsRepeat}
 use Rattle.receive.specs.Steps.{freed}
 use Rattle.receive.proofs.Facts.{freed-fewer}
 use Rattle.clock.specs.Look.{packetDue, acknowledgeDue, afterOldest, exhausted, served, acknowledgedIf, lookedOpen}
@@ -38,11 +38,11 @@ bit-small false = omega arith
 
 -- the repeats that the newest n packets have left
 abbrev pub spareOf : ℕ → ℕ → ℕ → List ℕ → ℕ → ℕ
-spareOf repeats next window counts zero = 0
-spareOf repeats next window counts (suc n) = spareOf repeats next window counts n + (repeats - getD counts ((next + 3 - n) % 4 % window) 0)
+spareOf repeats next window repeated zero = 0
+spareOf repeats next window repeated (suc n) = spareOf repeats next window repeated n + (repeats - getD repeated ((next + 3 - n) % 4 % window) 0)
 
 abbrev pub spare : Link → ℕ → ℕ
-spare l n = spareOf (l .settings .repeats) (l .next) (l .settings .window) (l .counts) n
+spare l n = spareOf (l .settings .repeats) (l .next) (l .settings .window) (l .repeated) n
 
 abbrev pub weight : Link → ℕ
 weight l = spare l (l .waiting) + bit (l .acking)
@@ -67,19 +67,19 @@ freed-spare l number = spare-fewer l (freed l number .waiting) (l .waiting) (fre
 -- ---- repeating
 
 -- the counts of all slots are as before or higher, and of this one higher by 1
-count-up : (l : Link) (number ms other : ℕ) → countOf l other ≤ countOf (again l number ms) other
+count-up : (l : Link) (number ms other : ℕ) → repeatedOf l other ≤ repeatedOf (again l number ms) other
 count-up l number ms other =
-    set-cases (λ n. countOf l other ≤ n) (l .counts) (slotOf l number) (slotOf l other) (countOf l number + 1)
-    (λ e. omega (arith, ap (λ (k : ℕ). getD (l .counts) k 0) e)) (omega arith)
+    set-cases (λ n. repeatedOf l other ≤ n) (l .repeated) (slotOf l number) (slotOf l other) (repeatedOf l number + 1)
+    (λ e. omega (arith, ap (λ (k : ℕ). getD (l .repeated) k 0) e)) (omega arith)
 
-count-more : (l : Link) (number ms : ℕ) → slotOf l number < length (l .counts) → countOf (again l number ms) number ≡ countOf l number + 1
-count-more l number ms h = getD-set-same (l .counts) (slotOf l number) (countOf l number + 1) 0 h
+count-more : (l : Link) (number ms : ℕ) → slotOf l number < length (l .repeated) → repeatedOf (again l number ms) number ≡ repeatedOf l number + 1
+count-more l number ms h = getD-set-same (l .repeated) (slotOf l number) (repeatedOf l number + 1) 0 h
 
 again-spare : (l : Link) (number ms n : ℕ) → spare (again l number ms) n ≤ spare l n
 again-spare l number ms zero = omega arith
 again-spare l number ms (suc n) = omega (arith, again-spare l number ms n, count-up l number ms (sentBefore l n))
 
-again-less : (l : Link) (ms j n : ℕ) → slotOf l (sentBefore l j) < length (l .counts) → j < n → countOf l (sentBefore l j) < l .settings .repeats
+again-less : (l : Link) (ms j n : ℕ) → slotOf l (sentBefore l j) < length (l .repeated) → j < n → repeatedOf l (sentBefore l j) < l .settings .repeats
     → spare (again l (sentBefore l j) ms) n + 1 ≤ spare l n
 again-less l ms j zero h lt few = absurd (omega arith)
 again-less l ms j (suc n) h lt few = go (λ less. again-less l ms j n h less few) (eqb j n) refl
@@ -93,8 +93,8 @@ again-less l ms j (suc n) h lt few = go (λ less. again-less l ms j n h less few
 pub again-weight : (l : Link) (ms j : ℕ) → Sound l → j < l .waiting → mayRepeat l (sentBefore l j) ≡ true → weight (again l (sentBefore l j) ms) + 1 ≤ weight l
 again-weight l ms j s h may =
     let formed : Formed l = wellFormed-facts l (s .formed) in
-    let slot : slotOf l (sentBefore l j) < length (l .counts) = omega (arith, slotOf-small l (sentBefore l j) (formed .settings), s .counts) in
-    omega (arith, again-less l ms j (l .waiting) slot h (ltb-true (countOf l (sentBefore l j)) (l .settings .repeats) may))
+    let slot : slotOf l (sentBefore l j) < length (l .repeated) = omega (arith, slotOf-small l (sentBefore l j) (formed .settings), s .repeated) in
+    omega (arith, again-less l ms j (l .waiting) slot h (ltb-true (repeatedOf l (sentBefore l j)) (l .settings .repeats) may))
 
 -- ---- take
 
@@ -133,7 +133,7 @@ served-look l slots frame ms j owed s alive h = go (mayRepeat l (sentBefore l j)
     k : ℕ
     k = sentBefore l j
 
-    go : (t : Bool) → mayRepeat l k ≡ t → CalmLook l (cond t (ends (sendsRepeat l slots frame ms k) done 0 slots) (exhausted l slots frame)) owed
+    go : (t : Bool) → mayRepeat l k ≡ t → CalmLook l (cond t (concluded (sendsRepeat l slots frame ms k) done 0 slots) (exhausted l slots frame)) owed
     go true e = record {
       low = rw (data-some k (lastCorrect l) (packetOf l slots k)) (again-weight l ms j s h e);
       few = omega arith;
@@ -165,11 +165,11 @@ looked-look l slots frame ms s alive = go (packetDue l (afterOldest l) ms) (pack
     older : packetDue l (afterOldest l) ms ≡ false → packetDue l 1 ms ≡ false
     older e = inner (ltb 1 (l .waiting)) refl
       where
-        inner : (t : Bool) → ltb 1 (l .waiting) ≡ t → (t && due (l .settings .transmit) (startOf l (sentBefore l 1)) ms) ≡ false
+        inner : (t : Bool) → ltb 1 (l .waiting) ≡ t → (t && due (l .settings .transtimeout) (startOf l (sentBefore l 1)) ms) ≡ false
         inner true q =
             let two : afterOldest l ≡ 1 = omega (arith, ltb-true 1 (l .waiting) q, formed .waiting, formed .settings .window-hi) in
-            let here : ltb 1 (l .waiting) && due (l .settings .transmit) (startOf l (sentBefore l 1)) ms ≡ false = subst (λ n. packetDue l n ms ≡ false) two e in
-            subst (λ t. (t && due (l .settings .transmit) (startOf l (sentBefore l 1)) ms) ≡ false) q here
+            let here : ltb 1 (l .waiting) && due (l .settings .transtimeout) (startOf l (sentBefore l 1)) ms ≡ false = subst (λ n. packetDue l n ms ≡ false) two e in
+            subst (λ t. (t && due (l .settings .transtimeout) (startOf l (sentBefore l 1)) ms) ≡ false) q here
         inner false q = refl
 
     go : (first second : Bool) → packetDue l (afterOldest l) ms ≡ first → packetDue l 0 ms ≡ second
@@ -177,4 +177,4 @@ looked-look l slots frame ms s alive = go (packetDue l (afterOldest l) ms) (pack
         (cond second (served l slots frame ms (sentBefore l 0)) (acknowledgedIf (acknowledgeDue l ms) l slots frame))) (second || packetDue l 1 ms || acknowledgeDue l ms)
     go true second e e₁ = served-look l slots frame ms (afterOldest l) (second || packetDue l 1 ms || acknowledgeDue l ms) s alive (due-waits l (afterOldest l) ms e)
     go false true e e₁ = served-look l slots frame ms 0 true s alive (due-waits l 0 ms e₁)
-    go false false e e₁ = rw (older e) (acknowledged-look l slots frame (acknowledgeDue l ms) (and-left (l .acking) (due (l .settings .acknowledge) (l .ackstart) ms)))
+    go false false e e₁ = rw (older e) (acknowledged-look l slots frame (acknowledgeDue l ms) (and-left (l .acking) (due (l .settings .acktimeout) (l .ackstart) ms)))

@@ -49,49 +49,49 @@ pub record Soon (test : ℕ → Bool) (most : ℕ) : Type 0 where
   pub within : after ≤ most
   pub holds : test after ≡ true
 
-unfoldable pub end-soon : (s : Settings) (l : Link) (ms : ℕ) → InRange s → l .settings ≡ s → Timed l → IsClock ms → runs l ≡ true → Soon (λ k. dueAt l (onward ms k)) (s .transmit)
+unfoldable pub end-soon : (s : Settings) (l : Link) (ms : ℕ) → InRange s → l .settings ≡ s → Timed l → IsClock ms → runs l ≡ true → Soon (λ k. dueAt l (onward ms k)) (s .transtimeout)
 end-soon s l ms r e t c q = go (ltb 0 (l .waiting)) refl q
   where
-    transmit : l .settings .transmit ≡ s .transmit
-    transmit = ap (λ (x : Settings). x .transmit) e
+    transtimeout : l .settings .transtimeout ≡ s .transtimeout
+    transtimeout = ap (λ (x : Settings). x .transtimeout) e
 
-    acknowledge : l .settings .acknowledge ≡ s .acknowledge
-    acknowledge = ap (λ (x : Settings). x .acknowledge) e
+    acknowledge : l .settings .acktimeout ≡ s .acktimeout
+    acknowledge = ap (λ (x : Settings). x .acktimeout) e
 
-    go : (y : Bool) → ltb 0 (l .waiting) ≡ y → (y || l .acking) ≡ true → Soon (λ k. dueAt l (onward ms k)) (s .transmit)
+    go : (y : Bool) → ltb 0 (l .waiting) ≡ y → (y || l .acking) ≡ true → Soon (λ k. dueAt l (onward ms k)) (s .transtimeout)
     go true w z =
-        let k : ℕ = left (l .settings .transmit) (startOf l (sentBefore l 0)) ms in
+        let k : ℕ = left (l .settings .transtimeout) (startOf l (sentBefore l 0)) ms in
         let then : ℕ = onward ms k in
         record {
           after = k;
-          within = omega (arith, transmit);
+          within = omega (arith, transtimeout);
           holds = or-first (packetDue l 0 then || packetDue l 1 then) (acknowledgeDue l then)
               (or-first (packetDue l 0 then) (packetDue l 1 then)
-              (and-both (ltb 0 (l .waiting)) (due (l .settings .transmit) (startOf l (sentBefore l 0)) then) w
-              (left-due (l .settings .transmit) (startOf l (sentBefore l 0)) ms (omega (arith, transmit, r .transmit-hi)) (t .0 _) c)));
+              (and-both (ltb 0 (l .waiting)) (due (l .settings .transtimeout) (startOf l (sentBefore l 0)) then) w
+              (left-due (l .settings .transtimeout) (startOf l (sentBefore l 0)) ms (omega (arith, transtimeout, r .transtimeout-hi)) (t .0 _) c)));
         }
     go false w z =
-        let k : ℕ = left (l .settings .acknowledge) (l .ackstart) ms in
+        let k : ℕ = left (l .settings .acktimeout) (l .ackstart) ms in
         let then : ℕ = onward ms k in
         record {
           after = k;
-          within = omega (arith, acknowledge, r .acknowledge-hi);
+          within = omega (arith, acknowledge, r .acktimeout-hi);
           holds = or-second (packetDue l 0 then || packetDue l 1 then) (acknowledgeDue l then)
-              (and-both (l .acking) (due (l .settings .acknowledge) (l .ackstart) then) z
-              (left-due (l .settings .acknowledge) (l .ackstart) ms (omega (arith, acknowledge, r .acknowledge-hi, r .transmit-hi)) (t .1) c));
+              (and-both (l .acking) (due (l .settings .acktimeout) (l .ackstart) then) z
+              (left-due (l .settings .acktimeout) (l .ackstart) ms (omega (arith, acknowledge, r .acktimeout-hi, r .transtimeout-hi)) (t .1) c));
         }
 
 -- ---- both ends
 
-unfoldable pub some-soon : (s : Settings) (S : System) (ms : ℕ) → InRange s → Inv s S → IsClock ms → someRuns S ≡ true → Soon (λ k. someDue S (onward ms k)) (s .transmit)
+unfoldable pub some-soon : (s : Settings) (S : System) (ms : ℕ) → InRange s → Inv s S → IsClock ms → someRuns S ≡ true → Soon (λ k. someDue S (onward ms k)) (s .transtimeout)
 some-soon s S ms r I c q = go (runs (S .here .state)) refl q
   where
-    go : (y : Bool) → runs (S .here .state) ≡ y → (y || runs (S .there .state)) ≡ true → Soon (λ k. someDue S (onward ms k)) (s .transmit)
+    go : (y : Bool) → runs (S .here .state) ≡ y → (y || runs (S .there .state)) ≡ true → Soon (λ k. someDue S (onward ms k)) (s .transtimeout)
     go true e z =
-        let k : Soon (λ k. dueAt (S .here .state) (onward ms k)) (s .transmit) = end-soon s (S .here .state) ms r (I .here .settings) (I .here .timed) c e in
+        let k : Soon (λ k. dueAt (S .here .state) (onward ms k)) (s .transtimeout) = end-soon s (S .here .state) ms r (I .here .settings) (I .here .timed) c e in
         record { after = k .after; within = k .within; holds = or-first (dueAt (S .here .state) (onward ms (k .after))) (dueAt (S .there .state) (onward ms (k .after))) (k .holds) }
     go false e z =
-        let k : Soon (λ k. dueAt (S .there .state) (onward ms k)) (s .transmit) = end-soon s (S .there .state) ms r (I .there .settings) (I .there .timed) c z in
+        let k : Soon (λ k. dueAt (S .there .state) (onward ms k)) (s .transtimeout) = end-soon s (S .there .state) ms r (I .there .settings) (I .there .timed) c z in
         record { after = k .after; within = k .within; holds = or-second (dueAt (S .here .state) (onward ms (k .after))) (dueAt (S .there .state) (onward ms (k .after))) (k .holds) }
 
 -- how far the clock is to be moved
@@ -104,7 +104,7 @@ moved s S ms r I c = go (someRuns S) refl
   where
     go : (y : Bool) → someRuns S ≡ y → Moved S ms
     go true e =
-        let k : Soon (λ k. someDue S (onward ms k)) (s .transmit) = some-soon s S ms r I c e in
+        let k : Soon (λ k. someDue S (onward ms k)) (s .transtimeout) = some-soon s S ms r I c e in
         let m : Least (λ k. someDue S (onward ms k)) (k .after) = least (λ k. someDue S (onward ms k)) (k .after) (k .holds) in
         record { passed = m .at; passes = moves (m .at) (m .holds) (m .before) }
     go false e = record { passed = 0; passes = stays e }

@@ -9,7 +9,7 @@ use Rattle.frame.specs.Bytes.{frameOf, ackFrame, dataFrame}
 use Rattle.state.specs.Bounds.{inRange}
 use Rattle.state.specs.State.{freshOf}
 use Rattle.send.specs.Submit.{submitted}
-use Rattle.receive.specs.Take.{taken}
+use Rattle.receive.specs.Take.{frameTaken}
 use Rattle.clock.specs.Look.{looked}
 use Rattle.pair.specs.System.{lost, damaged, submit, take-head, harm, Moment, start, here, there}
 use Rattle.pair.specs.Run.{settings, buffer, slots, loanA, loanB, moment0, moment1, moment2, moment3, moment4, moment5, moment6, WorkedRun}
@@ -17,7 +17,7 @@ use Rattle.pair.proofs.Timers.{moved, some-soon, end-soon, least, searc
 use Rattle.pair.proofs.Exist.{rounds-exist, led, a-round, emptied, emptied-by, stepped, watched, watched-by, blank}
 
 reached : Moment settings moment6
-unfolding submitted taken freshOf put frameOf checksumOf inRange
+unfolding submitted frameTaken freshOf put frameOf checksumOf inRange
 reached =
     let m0 : Moment settings moment0 = start slots slots refl (omega arith) (omega arith) in
     let m1 : Moment settings moment1 = here moment0 moment1 m0 (submit buffer loanA 4294967276 (omega arith)) in
@@ -28,7 +28,7 @@ reached =
     here moment5 moment6 m5 (take-head buffer (0xFF ∷ []) [] 4294967279 (omega arith) refl)
 
 pub worked : WorkedRun
-unfolding submitted taken looked freshOf put frameOf checksumOf inRange rounds-exist led a-round emptied emptied-by stepped watched watched-by moved some-soon end-soon least search-from blank
+unfolding submitted frameTaken looked freshOf put frameOf checksumOf inRange rounds-exist led a-round emptied emptied-by stepped watched watched-by moved some-soon end-soon least search-from blank
 worked = record {
   moment = reached;
   nak = refl;

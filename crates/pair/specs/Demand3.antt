@@ -11,17 +11,17 @@ use Rattle.pair.specs.Round.{Carries, carriedIn, Rounds}
 
 -- demand 3: "the packets delivered each way are at every moment the first so many of those taken: same bytes, same order, each once"
 abbrev pub FirstSoManyOf : List (List ℕ) → List (List ℕ) → Type 0
-FirstSoManyOf delivered takenIn = delivered ≡ take (length delivered) takenIn
+FirstSoManyOf delivered taken = delivered ≡ take (length delivered) taken
 
 abbrev pub FirstSoMany : Type 0
 FirstSoMany =
     (s : Settings) (S : System) → Moment s S
-    → FirstSoManyOf (S .there .delivered) (S .here .takenIn) × FirstSoManyOf (S .here .delivered) (S .there .takenIn)
+    → FirstSoManyOf (S .there .delivered) (S .here .taken) × FirstSoManyOf (S .here .delivered) (S .there .taken)
 
 -- demand 3: "every packet taken is delivered and both windows are empty"
 pub record Through (S : System) : Type 0 where
-  pub forth : S .there .delivered ≡ S .here .takenIn
-  pub back : S .here .delivered ≡ S .there .takenIn
+  pub forth : S .there .delivered ≡ S .here .taken
+  pub back : S .here .delivered ≡ S .there .taken
   pub window-here : S .here .state .waiting ≡ 0
   pub window-there : S .there .state .waiting ≡ 0
 
@@ -60,4 +60,4 @@ CarryingEnds =
 -- one TRANS_TIMEOUT.
 abbrev pub InMilliseconds : Type 0
 InMilliseconds =
-    (s : Settings) (S T : System) (ms n total : ℕ) → Moment s S → IsClock ms → Rounds ms S n total T → Alive T → total ≤ 22 * s .transmit
+    (s : Settings) (S T : System) (ms n total : ℕ) → Moment s S → IsClock ms → Rounds ms S n total T → Alive T → total ≤ 22 * s .transtimeout

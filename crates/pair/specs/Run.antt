@@ -9,7 +9,7 @@ use Rattle.pair.specs.System.{System, swap, submits, takes, withQueue, f
 use Rattle.pair.specs.Demand3.{Played}
 
 abbrev pub settings : Settings
-settings = record { d = 16; transmit = 100; acknowledge = 50; window = 2; repeats = 2 }
+settings = record { format = record { d = 16 }; transtimeout = 100; acktimeout = 50; window = 2; repeats = 2 }
 
 abbrev pub buffer : List ℕ
 buffer = 0 ∷ 0 ∷ 0 ∷ 0 ∷ 0 ∷ 0 ∷ 0 ∷ 0 ∷ 0 ∷ 0 ∷ 0 ∷ 0 ∷ 0 ∷ 0 ∷ 0 ∷ 0 ∷ []

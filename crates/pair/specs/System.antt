@@ -18,7 +18,7 @@ use Rattle.state.specs.Bounds.{inRange, slotsNeed}
 use Rattle.state.specs.State.{freshOf}
 use Rattle.state.specs.Gate.{After, after}
 use Rattle.send.specs.Submit.{submitted}
-use Rattle.receive.specs.Take.{taken}
+use Rattle.receive.specs.Take.{frameTaken}
 use Rattle.clock.specs.declared.Looked.{Looked}
 use Rattle.clock.specs.Look.{looked, acknowledgedNow}
 
@@ -30,7 +30,7 @@ pub record Side : Type 0 where
   pub state : Link
   pub slots : List ℕ
   pub queue : List (List ℕ)
-  pub takenIn : List (List ℕ)
+  pub taken : List (List ℕ)
   pub delivered : List (List ℕ)
 
 pub record System : Type 0 where
@@ -66,19 +66,19 @@ queued queue sent = queue ++ sent
 -- demand 3: "each call gets the state the last one left and the same slots, in which only the link writes": the system after the call, with its
 -- queue and with what it took and delivered
 abbrev pub called : System → After Outcome → List (List ℕ) → List (List ℕ) → List (List ℕ) → System
-called S a queue takenIn delivered = record {
+called S a queue taken delivered = record {
   here = record {
     state = a .told .state;
     slots = a .slots;
     queue = queue;
-    takenIn = S .here .takenIn ++ takenIn;
+    taken = S .here .taken ++ taken;
     delivered = S .here .delivered ++ delivered;
   };
   there = record {
     state = S .there .state;
     slots = S .there .slots;
     queue = queued (S .there .queue) (sentBy a);
-    takenIn = S .there .takenIn;
+    taken = S .there .taken;
     delivered = S .there .delivered;
   };
 }
@@ -90,7 +90,7 @@ submits S frame ms packet =
 
 abbrev pub takes : System → List ℕ → ℕ → List ℕ → List (List ℕ) → System
 takes S frame ms received rest =
-    let a : After Outcome = taken (S .here .state) (S .here .slots) frame ms received in
+    let a : After Outcome = frameTaken (S .here .state) (S .here .slots) frame ms received in
     called S a (leftBy a received rest) [] (deliveredBy a received)
 
 abbrev pub lookOf : System → List ℕ → ℕ → After Outcome
@@ -118,7 +118,7 @@ withQueue S queue = record {
     state = S .here .state;
     slots = S .here .slots;
     queue = queue;
-    takenIn = S .here .takenIn;
+    taken = S .here .taken;
     delivered = S .here .delivered;
   };
   there = S .there;
@@ -136,13 +136,13 @@ pub data Move (S : System) : System → Type 0 where
   take-head : (frame received : List ℕ) (rest : List (List ℕ)) (ms : ℕ) → IsClock ms → S .here .queue ≡ received ∷ rest → Move S (takes S frame ms received rest)
   look : (frame : List ℕ) (ms : ℕ) → IsClock ms → Move S (looks S frame ms)
   acknowledge : (frame : List ℕ) → Move S (acknowledges S frame)
-  harm : (queue : List (List ℕ)) → Harm (S .here .state .settings .d) (S .here .queue) queue → Move S (withQueue S queue)
+  harm : (queue : List (List ℕ)) → Harm (S .here .state .settings .format .d) (S .here .queue) queue → Move S (withQueue S queue)
 
 -- ---- moments
 
 -- an end as start gives it with answer 0 (`started`, state), the queue towards it empty
 abbrev pub freshSide : Settings → List ℕ → Side
-freshSide s slots = record { state = freshOf s; slots = slots; queue = []; takenIn = []; delivered = [] }
+freshSide s slots = record { state = freshOf s; slots = slots; queue = []; taken = []; delivered = [] }
 
 -- demand 3: "From any such moment": two ends started fresh with equal settings and slots of any bytes, and any moves at either end since
 pub data Moment (s : Settings) : System → Type 0 where

@@ -18,16 +18,16 @@ use Rattle.state.specs.Gate.{After, gateOf}
 use Rattle.state.specs.Formed.{Open}
 use Rattle.state.proofs.Facts.{gated-open}
 use Rattle.send.specs.Repeat.{mayRepeat, Ready}
-use Rattle.send.specs.Makers.{silent, ends, sendsAck}
+use Rattle.send.specs.Makers.{silent, concluded, sendsAck}
 use Rattle.send.proofs.Facts.{waiting-ready}
 use Rattle.receive.specs.Steps.{freed, repeatable, afterStep6, afterDelivery}
-use Rattle.receive.specs.Take.{repeatedOr, dataTaken, obeyed, taken}
+use Rattle.receive.specs.Take.{repeatedOr, dataTaken, obeyed, frameTaken}
 
 -- take behind an open gate
-pub taken-open : (l : Link) (slots frame : List ℕ) (ms : ℕ) (received : List ℕ) → gateOf l (length slots) (length frame) ≡ done
-    → taken l slots frame ms received ≡ obeyed l slots frame ms (heard (l .settings .d) received)
-unfolding taken
-taken-open l slots frame ms received e = gated-open (gateOf l (length slots) (length frame)) l slots frame (obeyed l slots frame ms (heard (l .settings .d) received)) e
+pub frameTaken-open : (l : Link) (slots frame : List ℕ) (ms : ℕ) (received : List ℕ) → gateOf l (length slots) (length frame) ≡ done
+    → frameTaken l slots frame ms received ≡ obeyed l slots frame ms (heard (l .settings .format) received)
+unfolding frameTaken
+frameTaken-open l slots frame ms received e = gated-open (gateOf l (length slots) (length frame)) l slots frame (obeyed l slots frame ms (heard (l .settings .format) received)) e
 
 -- ---- step 6
 
@@ -66,26 +66,26 @@ afterStep6-expected l false number = refl
 -- a data frame taken, of the state after step 6, the one after step 7, and whether a packet is repeated
 pub delivered-data : (l sixth seventh : Link) (slots frame : List ℕ) (ms number : ℕ) (nak repeat : Bool) (acknowledged len : ℕ) (r : After Outcome)
     → number ≡ l .expected → repeat ≡ repeatable l acknowledged → sixth ≡ afterStep6 l nak acknowledged → seventh ≡ afterDelivery sixth ms
-    → r ≡ ends (repeatedOr (nak && repeat) seventh slots frame ms acknowledged (silent seventh frame)) done len slots
+    → r ≡ concluded (repeatedOr (nak && repeat) seventh slots frame ms acknowledged (silent seventh frame)) done len slots
     → r ≡ dataTaken l slots frame ms number nak acknowledged len
 unfolding dataTaken
 delivered-data l sixth seventh slots frame ms number nak repeat acknowledged len r n e six seven q = rw (eq-eqb number (l .expected) n) cc
 
 pub unexpected-data : (l sixth : Link) (slots frame : List ℕ) (ms number : ℕ) (nak repeat : Bool) (acknowledged len : ℕ) (r : After Outcome)
     → (number ≡ l .expected → ⊥) → repeat ≡ repeatable l acknowledged → sixth ≡ afterStep6 l nak acknowledged
-    → r ≡ ends (repeatedOr (nak && repeat) sixth slots frame ms acknowledged (sendsAck sixth frame)) unexpected 0 slots
+    → r ≡ concluded (repeatedOr (nak && repeat) sixth slots frame ms acknowledged (sendsAck sixth frame)) unexpected 0 slots
     → r ≡ dataTaken l slots frame ms number nak acknowledged len
 unfolding dataTaken
 unexpected-data l sixth slots frame ms number nak repeat acknowledged len r n e six q = rw (ne-eqb number (l .expected) n) cc
 
 -- data that carries an ACK: the expected number is delivered, and no other
 pub data-taken : (P : After Outcome → Type 0) (l : Link) (slots frame : List ℕ) (ms number acknowledged len : ℕ)
-    → (number ≡ l .expected → P (ends (silent (afterDelivery (freed l acknowledged) ms) frame) done len slots))
-    → ((number ≡ l .expected → ⊥) → P (ends (sendsAck (freed l acknowledged) frame) unexpected 0 slots))
+    → (number ≡ l .expected → P (concluded (silent (afterDelivery (freed l acknowledged) ms) frame) done len slots))
+    → ((number ≡ l .expected → ⊥) → P (concluded (sendsAck (freed l acknowledged) frame) unexpected 0 slots))
     → P (obeyed l slots frame ms (Data number false acknowledged len))
 unfolding obeyed dataTaken
 data-taken P l slots frame ms number acknowledged len same other =
     cond-cases P (eqb number (l .expected))
-    (ends (silent (afterDelivery (freed l acknowledged) ms) frame) done len slots)
-    (ends (sendsAck (freed l acknowledged) frame) unexpected 0 slots)
+    (concluded (silent (afterDelivery (freed l acknowledged) ms) frame) done len slots)
+    (concluded (sendsAck (freed l acknowledged) frame) unexpected 0 slots)
     (λ e. same (eqb-true number (l .expected) e)) (λ e. other (eqb-false number (l .expected) e))

@@ -18,17 +18,17 @@ use Rattle.state.specs.Formed.{Formed, Sound}
 use Rattle.state.proofs.Facts.{wellFormed-facts}
 use Rattle.state.proofs.Keeps.{changed-sound, gated-sound, renewed-sound}
 use Rattle.send.specs.Repeat.{mayRepeat}
-use Rattle.send.specs.Makers.{Sending, silent, ends, sendsAck}
-use Rattle.send.proofs.Keeps.{again-sound, quiet-sound, sendsNak-sound}
+use Rattle.send.specs.Makers.{Sending, silent, concluded, sendsAck}
+use Rattle.send.proofs.Keeps.{again-sound, ackStopped-sound, sendsNak-sound}
 use Rattle.receive.specs.Steps.{freed, repeatable, afterStep6, afterDelivery}
-use Rattle.receive.specs.Take.{repeatedOr, dataTaken, obeyed, taken}
+use Rattle.receive.specs.Take.{repeatedOr, dataTaken, obeyed, frameTaken}
 use Rattle.receive.proofs.Facts.{freed-fewer}
 
 pub freed-sound : (l : Link) (number : ℕ) → Sound l → Sound (freed l number)
 freed-sound l number s =
     let f : Formed l = wellFormed-facts l (s .formed) in
-    changed-sound l (l .starts) (l .counts) (l .ackstart) (l .expected) (freed l number .waiting) (l .acking) (l .naked) (l .lost) s
-    (s .starts) (s .counts) (f .expected) (freed-fewer l number) (f .counts)
+    changed-sound l (l .starts) (l .repeated) (l .ackstart) (l .expected) (freed l number .waiting) (l .acking) (l .nakmark) (l .lost) s
+    (s .starts) (s .repeated) (f .expected) (freed-fewer l number) (f .repeated)
 
 afterStep6-sound : (l : Link) (nak : Bool) (number : ℕ) → Sound l → Sound (afterStep6 l nak number)
 afterStep6-sound l true number s = s
@@ -37,8 +37,8 @@ afterStep6-sound l false number s = freed-sound l number s
 pub afterDelivery-sound : (l : Link) (ms : ℕ) → Sound l → Sound (afterDelivery l ms)
 afterDelivery-sound l ms s =
     let f : Formed l = wellFormed-facts l (s .formed) in
-    changed-sound l (l .starts) (l .counts) (cond (l .acking) (l .ackstart) ms) ((l .expected + 1) % 4) (l .waiting) true false (l .lost) s
-    (s .starts) (s .counts) (omega arith) (omega arith) (f .counts)
+    changed-sound l (l .starts) (l .repeated) (cond (l .acking) (l .ackstart) ms) ((l .expected + 1) % 4) (l .waiting) true false (l .lost) s
+    (s .starts) (s .repeated) (omega arith) (omega arith) (f .repeated)
 
 -- a repeat or what would be sent otherwise
 repeatedOr-sound : (repeat : Bool) (l : Link) (slots frame : List ℕ) (ms number : ℕ) (otherwise : Sending) → Sound l
@@ -67,14 +67,14 @@ dataTaken-sound l slots frame ms number nak acknowledged len s = go (eqb number 
     seventh = afterDelivery sixth ms
 
     go : (t : Bool)
-        → Sound (cond t (ends (repeatedOr repeat seventh slots frame ms acknowledged (silent seventh frame)) done len slots)
-        (ends (repeatedOr repeat sixth slots frame ms acknowledged (sendsAck sixth frame)) unexpected 0 slots) .told .state)
+        → Sound (cond t (concluded (repeatedOr repeat seventh slots frame ms acknowledged (silent seventh frame)) done len slots)
+        (concluded (repeatedOr repeat sixth slots frame ms acknowledged (sendsAck sixth frame)) unexpected 0 slots) .told .state)
     go true =
         let s7 : Sound seventh = afterDelivery-sound sixth ms (afterStep6-sound l nak acknowledged s) in
         repeatedOr-sound repeat seventh slots frame ms acknowledged (silent seventh frame) s7 (sixth-repeats l nak acknowledged) s7
     go false =
         let s6 : Sound sixth = afterStep6-sound l nak acknowledged s in
-        repeatedOr-sound repeat sixth slots frame ms acknowledged (sendsAck sixth frame) s6 (sixth-repeats l nak acknowledged) (quiet-sound sixth s6)
+        repeatedOr-sound repeat sixth slots frame ms acknowledged (sendsAck sixth frame) s6 (sixth-repeats l nak acknowledged) (ackStopped-sound sixth s6)
 
 obeyed-sound : (l : Link) (slots frame : List ℕ) (ms : ℕ) (h : Heard) → Sound l → Sound (obeyed l slots frame ms h .told .state)
 unfolding obeyed
@@ -89,8 +89,8 @@ obeyed-sound l slots frame ms (Nak number) s =
     repeatedOr-sound (repeatable l number) l slots frame ms number (silent l frame) s (and-right (waits l number) (mayRepeat l number)) s
 obeyed-sound l slots frame ms (Data number nak acknowledged len) s = dataTaken-sound l slots frame ms number nak acknowledged len s
 
-pub taken-sound : (l : Link) (slots frame : List ℕ) (ms : ℕ) (received : List ℕ) → Sound l → Sound (taken l slots frame ms received .told .state)
-unfolding taken
-taken-sound l slots frame ms received s =
-    gated-sound (gateOf l (length slots) (length frame)) l slots frame (obeyed l slots frame ms (heard (l .settings .d) received)) s
-    (λ e. obeyed-sound l slots frame ms (heard (l .settings .d) received) s)
+pub frameTaken-sound : (l : Link) (slots frame : List ℕ) (ms : ℕ) (received : List ℕ) → Sound l → Sound (frameTaken l slots frame ms received .told .state)
+unfolding frameTaken
+frameTaken-sound l slots frame ms received s =
+    gated-sound (gateOf l (length slots) (length frame)) l slots frame (obeyed l slots frame ms (heard (l .settings .format) received)) s
+    (λ e. obeyed-sound l slots frame ms (heard (l .settings .format) received) s)

@@ -2,7 +2,7 @@
 use Prim.Native.Nat.{ℕ, _+_, _%_}
 use mathlib.Core.Bool.{Bool, true, false, cond, _&&_}
 use Rattle.state.specs.declared.Link.{Link}
-use Rattle.state.specs.Fields.{withAckstart, withExpected, withWaiting, withAcking, withNaked}
+use Rattle.state.specs.Fields.{withAckstart, withExpected, withWaiting, withAcking, withNakmark}
 use Rattle.state.specs.State.{behind, waits}
 use Rattle.send.specs.Repeat.{mayRepeat}
 
@@ -25,4 +25,4 @@ afterStep6 l nak number = cond nak l (freed l number)
 -- delivery".
 abbrev pub afterDelivery : Link → ℕ → Link
 afterDelivery l ms =
-    withNaked (withAcking (withAckstart (withExpected l ((l .expected + 1) % 4)) (cond (l .acking) (l .ackstart) ms)) true) false
+    withNakmark (withAcking (withAckstart (withExpected l ((l .expected + 1) % 4)) (cond (l .acking) (l .ackstart) ms)) true) false

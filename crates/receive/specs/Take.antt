@@ -12,13 +12,13 @@ use Rattle.state.specs.declared.Link.{Link}
 use Rattle.state.specs.declared.Outcome.{Outcome}
 use Rattle.state.specs.State.{renewed}
 use Rattle.state.specs.Gate.{After, after, refused, gated, gateOf}
-use Rattle.send.specs.Makers.{Sending, silent, ends, sendsRepeat, sendsAck, sendsNak}
+use Rattle.send.specs.Makers.{Sending, silent, concluded, sendsRepeat, sendsAck, sendsNak}
 use Rattle.receive.specs.Steps.{freed, repeatable, afterStep6, afterDelivery}
 
 -- "answer 6, NAK", "7, NAK"; what they leave: "NAK mark; NAK written if sent". "Steps 1 to 4 use nothing else of the frame.": none of its numbers
 -- comes in.
 abbrev pub refusedWithNak : Link → List ℕ → List ℕ → Heard → After Outcome
-refusedWithNak l slots frame h = ends (sendsNak l frame) (refusalOf h) 0 slots
+refusedWithNak l slots frame h = concluded (sendsNak l frame) (refusalOf h) 0 slots
 
 -- "5. Reset: the end becomes fresh with its settings kept, waiting packets are dropped, their count is told. Answer 0."
 abbrev pub reset : Link → Outcome
@@ -31,7 +31,7 @@ repeatedOr repeat l slots frame ms number otherwise = cond repeat (sendsRepeat l
 
 -- step 6, of a control NAK
 abbrev pub nakObeyed : Link → List ℕ → List ℕ → ℕ → ℕ → After Outcome
-nakObeyed l slots frame ms number = ends (repeatedOr (repeatable l number) l slots frame ms number (silent l frame)) done 0 slots
+nakObeyed l slots frame ms number = concluded (repeatedOr (repeatable l number) l slots frame ms number (silent l frame)) done 0 slots
 
 -- "7. Data: if its number is the expected one, it is delivered (the packet is the frame from byte 3, LEN bytes) .. Otherwise 9, and an ACK for
 -- the last correct number goes out. (Section 3.2 says NAK here; Table 3-2 says ACK and decides.)" With 9, "step 6 done; one frame written".
@@ -43,8 +43,8 @@ dataTaken l slots frame ms number nak acknowledged len =
     let sixth : Link = afterStep6 l nak acknowledged in
     let seventh : Link = afterDelivery sixth ms in
     cond (eqb number (l .expected))
-    (ends (repeatedOr repeat seventh slots frame ms acknowledged (silent seventh frame)) done len slots)
-    (ends (repeatedOr repeat sixth slots frame ms acknowledged (sendsAck sixth frame)) unexpected 0 slots)
+    (concluded (repeatedOr repeat seventh slots frame ms acknowledged (silent seventh frame)) done len slots)
+    (concluded (repeatedOr repeat sixth slots frame ms acknowledged (sendsAck sixth frame)) unexpected 0 slots)
 
 -- steps 1 to 4 are decided by what was heard, 5 to 7 need the state; step 3 is "8, dropped, nothing sent"
 unfoldable pub obeyed : Link → List ℕ → List ℕ → ℕ → Heard → After Outcome
@@ -55,12 +55,12 @@ obeyed l slots frame ms Code = refusedWithNak l slots frame Code
 obeyed l slots frame ms ControlSize = refused l (refusalOf ControlSize) slots frame
 obeyed l slots frame ms Length = refusedWithNak l slots frame Length
 obeyed l slots frame ms Reset = after (reset l) slots frame
-obeyed l slots frame ms (Ack number) = ends (silent (freed l number) frame) done 0 slots
+obeyed l slots frame ms (Ack number) = concluded (silent (freed l number) frame) done 0 slots
 obeyed l slots frame ms (Nak number) = nakObeyed l slots frame ms number
 obeyed l slots frame ms (Data number nak acknowledged len) = dataTaken l slots frame ms number nak acknowledged len
 
 -- "Order: link calls 1, 2, 3, then .. the frame steps"
-unfoldable pub taken : Link → List ℕ → List ℕ → ℕ → List ℕ → After Outcome
+unfoldable pub frameTaken : Link → List ℕ → List ℕ → ℕ → List ℕ → After Outcome
 unfolding gateOf heard obeyed
-taken l slots frame ms received =
-    gated (gateOf l (length slots) (length frame)) l slots frame (obeyed l slots frame ms (heard (l .settings .d) received))
+frameTaken l slots frame ms received =
+    gated (gateOf l (length slots) (length frame)) l slots frame (obeyed l slots frame ms (heard (l .settings .format) received))

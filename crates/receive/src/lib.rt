@@ -14,7 +14,7 @@ ghost use Rattle.state.specs.Gate.{after, gateOf};
 ghost use Rattle.send.specs.Makers.{sending, silent, sendsAck};
 ghost use Rattle.send.specs.Repeat.{Ready};
 ghost use Rattle.receive.specs.Steps.{freed, repeatable, afterStep6, afterDelivery};
-ghost use Rattle.receive.specs.Take.{refusedWithNak, reset, repeatedOr, nakObeyed, dataTaken, obeyed, taken};
+ghost use Rattle.receive.specs.Take.{refusedWithNak, reset, repeatedOr, nakObeyed, dataTaken, obeyed, frameTaken};
 
 // ---- step 6
 
@@ -56,7 +56,7 @@ fn deliver(l: Link, ms: u32) -> Link
 {
     let mut k = l;
     k.expected = (l.expected + 1) % 4;
-    k.naked = false;
+    k.nakmark = false;
     k.acking = true;
     if l.acking {
         return k;
@@ -111,10 +111,10 @@ fn take_data(
     if number == l.expected {
         let seventh = deliver(sixth, ms);
         let sent = repeat_or_nothing(seventh, slots, frame, ms, acknowledged, repeat);
-        return send::end(sent, answer::DONE, len);
+        return send::conclude(sent, answer::DONE, len);
     }
     let sent = repeat_or_ack(sixth, slots, frame, ms, acknowledged, repeat);
-    send::end(sent, answer::UNEXPECTED, 0)
+    send::conclude(sent, answer::UNEXPECTED, 0)
 }
 
 // ---- all steps
@@ -124,7 +124,7 @@ fn refuse(l: Link, slots: &[u8], frame: &mut [u8], h: Heard) -> Outcome
     ensures { λ r. ⌜ after r (now (slots .entry)) (now (frame .exit)) ≡ refusedWithNak l (now (slots .entry)) (now (frame .entry)) h ⌝ }
 {
     let sent = send::send_nak(l, frame);
-    send::end(sent, frame::refusal(h), 0)
+    send::conclude(sent, frame::refusal(h), 0)
 }
 
 fn obey_reset(l: Link) -> Outcome
@@ -145,7 +145,7 @@ fn obey_nak(l: Link, slots: &[u8], frame: &mut [u8], ms: u32, number: u8) -> Out
     ensures { λ r. ⌜ after r (now (slots .entry)) (now (frame .exit)) ≡ nakObeyed l (now (slots .entry)) (now (frame .entry)) ms number ⌝ }
 {
     let repeat = is_repeatable(l, number);
-    send::end(
+    send::conclude(
         repeat_or_nothing(l, slots, frame, ms, number, repeat),
         answer::DONE,
         0,
@@ -175,11 +175,11 @@ fn obey(l: Link, slots: &[u8], frame: &mut [u8], ms: u32, h: Heard) -> Outcome
 }
 
 pub fn take(l: Link, slots: &[u8], frame: &mut [u8], ms: u32, received: &[u8]) -> Outcome
-    ensures { λ r. ⌜ after r (now (slots .entry)) (now (frame .exit)) ≡ taken l (now (slots .entry)) (now (frame .entry)) ms (now (received .entry)) ⌝ }
+    ensures { λ r. ⌜ after r (now (slots .entry)) (now (frame .exit)) ≡ frameTaken l (now (slots .entry)) (now (frame .entry)) ms (now (received .entry)) ⌝ }
 {
     let refusal = state::gate(l, slots.len(), frame.len());
     if refusal == answer::DONE {
-        let h = frame::hear(l.settings.d, received);
+        let h = frame::hear(l.settings.format, received);
         return obey(l, slots, frame, ms, h);
     }
     state::answer_only(l, refusal)

@@ -48,8 +48,8 @@ fn fill(buffer: &mut [u8], byte: u8) {
 fn settings_of(v: Values) -> Settings {
     Settings {
         d: middle(v[0]),
-        transmit: middle(v[2]),
-        acknowledge: middle(v[3]),
+        transtimeout: middle(v[2]),
+        acktimeout: middle(v[3]),
         window: small(v[1]),
         repeats: small(v[4]),
     }
@@ -62,12 +62,12 @@ fn link_of(v: Values) -> Link {
         starts: [wide(v[10]), wide(v[11])],
         ackstart: wide(v[15]),
         lengths: [middle(v[8]), middle(v[9])],
-        counts: [small(v[12]), small(v[13])],
+        repeated: [small(v[12]), small(v[13])],
         next: small(v[5]),
         expected: small(v[6]),
         waiting: small(v[7]),
         acking: v[14] == 1,
-        naked: v[16] == 1,
+        nakmark: v[16] == 1,
         lost: v[17] == 1,
     }
 }

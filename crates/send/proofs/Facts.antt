@@ -13,13 +13,13 @@ use Rattle.base.proofs.Tests.{within-low, within-high, passed, firstOf-left, fi
 use Rattle.state.specs.declared.Link.{Link}
 use Rattle.state.specs.Bounds.{limitOf}
 use Rattle.state.specs.declared.Outcome.{Outcome}
-use Rattle.state.specs.State.{sentBefore, slotOf, lengthOf, countOf}
+use Rattle.state.specs.State.{sentBefore, slotOf, lengthOf, repeatedOf}
 use Rattle.state.specs.Gate.{after, gateOf}
 use Rattle.state.specs.Formed.{InRange, Formed, Open}
 use Rattle.state.proofs.Facts.{gateOf-facts, slotOf-lt, part-inside}
 use Rattle.send.specs.Repeat.{partOf, mayRepeat, Ready}
 use Rattle.send.specs.declared.Sent.{Sent}
-use Rattle.send.specs.Makers.{Sending, sending, ends}
+use Rattle.send.specs.Makers.{Sending, sending, concluded}
 use Rattle.send.specs.Submit.{packetGate, submitGate}
 
 -- what a gate of 0 says, as plain inequalities
@@ -61,14 +61,14 @@ waiting-ready l n slots frame o w e =
     let f : Formed l = o .entered .formed in
     let s : InRange (l .settings) = f .settings in
     let number : ℕ = sentBefore l n in
-    let few : countOf l number < l .settings .repeats = ltb-true (countOf l number) (l .settings .repeats) e in
-    let len : lengthOf l number + 5 ≤ l .settings .d = omega (arith, f .lengths n w .most, s .d-lo) in
+    let few : repeatedOf l number < l .settings .repeats = ltb-true (repeatedOf l number) (l .settings .repeats) e in
+    let len : lengthOf l number + 5 ≤ l .settings .format .d = omega (arith, f .lengths n w .most, s .d-lo) in
     let small : number ≤ 3 = omega arith in
-    let count : countOf l number < 255 = omega (arith, few, s .repeats-hi) in
+    let count : repeatedOf l number < 255 = omega (arith, few, s .repeats-hi) in
     ((small, s .window-lo, s .window-hi), (part-fits l number (lengthOf l number) slots frame o (f .lengths n w .most), len), (o .entered .frame-room, count))
 
 -- a call that ends with what a maker left
 pub ended : (r : Outcome) (s : Sent) (slots frame : List ℕ) (x : Sending) (answer delivered : ℕ)
     → r ≡ record { state = s .state; sent = s .sent; delivered = delivered; dropped = 0; answer = answer } → sending s frame ≡ x
-    → after r slots frame ≡ ends x answer delivered slots
-ended r s slots frame x answer delivered e q = rw e (ap (λ (y : Sending). ends y answer delivered slots) q)
+    → after r slots frame ≡ concluded x answer delivered slots
+ended r s slots frame x answer delivered e q = rw e (ap (λ (y : Sending). concluded y answer delivered slots) q)

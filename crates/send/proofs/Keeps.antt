@@ -11,12 +11,12 @@ use Rattle.base.proofs.Put.{set-cases}
 use Rattle.frame.specs.Bytes.{nakFrame}
 use Rattle.state.specs.declared.Link.{Link}
 use Rattle.state.specs.Bounds.{limitOf}
-use Rattle.state.specs.State.{lastCorrect, sentBefore, slotOf, lengthOf, countOf}
+use Rattle.state.specs.State.{lastCorrect, sentBefore, slotOf, lengthOf, repeatedOf}
 use Rattle.state.specs.Formed.{LengthOk, Formed, Sound}
 use Rattle.state.proofs.Facts.{slotOf-small, slots-apart, wellFormed-facts, facts-wellFormed}
 use Rattle.state.proofs.Keeps.{changed-sound, marked-sound, gated-sound}
 use Rattle.send.specs.Repeat.{dataSent, again, mayRepeat}
-use Rattle.send.specs.Makers.{silent, sends, quiet, marked, sendsNak}
+use Rattle.send.specs.Makers.{silent, sends, ackStopped, marked, sendsNak}
 use Rattle.send.specs.Submit.{submitGate, added, sentFirst, packetAccepted, submitted}
 use Rattle.send.proofs.Facts.{Accepting, submitGate-facts}
 
@@ -25,24 +25,24 @@ use Rattle.send.proofs.Facts.{Accepting, submitGate-facts}
 dataSent-sound : (l : Link) (number ms count : ℕ) → Sound l → count ≤ l .settings .repeats → Sound (dataSent l number ms count)
 dataSent-sound l number ms count s c =
     let f : Formed l = wellFormed-facts l (s .formed) in
-    changed-sound l (set (l .starts) (slotOf l number) ms) (set (l .counts) (slotOf l number) count) (l .ackstart) (l .expected) (l .waiting) false (l .naked) (l .lost) s
+    changed-sound l (set (l .starts) (slotOf l number) ms) (set (l .repeated) (slotOf l number) count) (l .ackstart) (l .expected) (l .waiting) false (l .nakmark) (l .lost) s
     (length-set (l .starts) (slotOf l number) ms ∙ s .starts)
-    (length-set (l .counts) (slotOf l number) count ∙ s .counts)
+    (length-set (l .repeated) (slotOf l number) count ∙ s .repeated)
     (f .expected) (omega arith)
-    (λ i h. set-cases (λ n. n ≤ l .settings .repeats) (l .counts) (slotOf l number) i count (λ e. c) (f .counts i h))
+    (λ i h. set-cases (λ n. n ≤ l .settings .repeats) (l .repeated) (slotOf l number) i count (λ e. c) (f .repeated i h))
 
 pub again-sound : (l : Link) (number ms : ℕ) → Sound l → mayRepeat l number ≡ true → Sound (again l number ms)
-again-sound l number ms s m = dataSent-sound l number ms (countOf l number + 1) s (omega (arith, ltb-true (countOf l number) (l .settings .repeats) m))
+again-sound l number ms s m = dataSent-sound l number ms (repeatedOf l number + 1) s (omega (arith, ltb-true (repeatedOf l number) (l .settings .repeats) m))
 
 -- ---- control frames
 
-pub quiet-sound : (l : Link) → Sound l → Sound (quiet l)
-quiet-sound l s = marked-sound l (l .ackstart) false (l .naked) (l .lost) s
+pub ackStopped-sound : (l : Link) → Sound l → Sound (ackStopped l)
+ackStopped-sound l s = marked-sound l (l .ackstart) false (l .nakmark) (l .lost) s
 
 pub sendsNak-sound : (l : Link) (frame : List ℕ) → Sound l → Sound (sendsNak l frame .told .state)
-sendsNak-sound l frame s = go (l .naked)
+sendsNak-sound l frame s = go (l .nakmark)
   where
-    go : (t : Bool) → Sound (cond t (silent l frame) (sends (marked l) (nakFrame ((lastCorrect l + 1) % 4)) frame) .told .state)
+    go : (t : Bool) → Sound (cond t (silent l frame) (sends (marked l) (nakFrame (l .settings .format) ((lastCorrect l + 1) % 4)) frame) .told .state)
     go true = s
     go false = marked-sound l (l .ackstart) (l .acking) true (l .lost) s
 
@@ -76,14 +76,14 @@ added-sound l packet s lo hi place =
     record {
       starts = s .starts;
       lengths = length-set (l .lengths) (slotOf l (l .next)) packet ∙ s .lengths;
-      counts = s .counts;
+      repeated = s .repeated;
       formed = facts-wellFormed (added l packet) (record {
         settings = f .settings;
         next = omega arith;
         expected = f .expected;
         waiting = omega (arith, place);
         lengths = lengths;
-        counts = f .counts;
+        repeated = f .repeated;
       });
     }
   where

@@ -61,5 +61,5 @@ accepted-waits l slots frame packet ms = refl
 
 -- a repeat carries the packet as it stands in its slot, and the last correct number of now
 pub repeat-says : (l : Link) (slots frame : List ℕ) (ms number : ℕ)
-    → sendsRepeat l slots frame ms number ≡ sends (again l number ms) (dataFrame number (lastCorrect l) (packetOf l slots number)) frame
+    → sendsRepeat l slots frame ms number ≡ sends (again l number ms) (dataFrame (l .settings .format) number (lastCorrect l) (packetOf l slots number)) frame
 repeat-says l slots frame ms number = refl

@@ -8,7 +8,7 @@ use Rattle.base.specs.Buffer.{put}
 use Rattle.frame.specs.Bytes.{dataFrame, ackFrame, nakFrame}
 use Rattle.state.specs.declared.Link.{Link}
 use Rattle.state.specs.declared.Outcome.{Outcome}
-use Rattle.state.specs.Fields.{withAcking, withNaked}
+use Rattle.state.specs.Fields.{withAcking, withNakmark}
 use Rattle.state.specs.State.{lastCorrect}
 use Rattle.state.specs.Gate.{After, after}
 use Rattle.send.specs.declared.Sent.{Sent}
@@ -29,8 +29,8 @@ abbrev pub silent : Link → List ℕ → Sending
 silent l frame = sending (record { state = l; sent = 0 }) frame
 
 -- for the calls that end with a maker below, or silent: they drop no packet and leave the slot buffer as it was
-abbrev pub ends : Sending → ℕ → ℕ → List ℕ → After Outcome
-ends s answer delivered slots =
+abbrev pub concluded : Sending → ℕ → ℕ → List ℕ → After Outcome
+concluded s answer delivered slots =
     after (record { state = s .told .state; sent = s .told .sent; delivered = delivered; dropped = 0; answer = answer }) slots (s .frame)
 
 -- ---- the makers
@@ -38,20 +38,20 @@ ends s answer delivered slots =
 -- "Each data frame, also a repeated one, carries ACK for the last correct number at that moment": made anew from the slot. "Easy to get wrong":
 -- "Repeating stored frame bytes: an old ACK three numbers back reads as one ahead."
 abbrev pub sendsRepeat : Link → List ℕ → List ℕ → ℕ → ℕ → Sending
-sendsRepeat l slots frame ms number = sends (again l number ms) (dataFrame number (lastCorrect l) (packetOf l slots number)) frame
+sendsRepeat l slots frame ms number = sends (again l number ms) (dataFrame (l .settings .format) number (lastCorrect l) (packetOf l slots number)) frame
 
 -- "Every control ACK stops the acknowledge timer". Its start time stays, as the packets' do ("Freeing a packet leaves these as they are").
-abbrev pub quiet : Link → Link
-quiet l = withAcking l false
+abbrev pub ackStopped : Link → Link
+ackStopped l = withAcking l false
 
 abbrev pub sendsAck : Link → List ℕ → Sending
-sendsAck l frame = sends (quiet l) (ackFrame (lastCorrect l)) frame
+sendsAck l frame = sends (ackStopped l) (ackFrame (l .settings .format) (lastCorrect l)) frame
 
 -- the "NAK mark", by which one "is sent at most once until the next delivery"
 abbrev pub marked : Link → Link
-marked l = withNaked l true
+marked l = withNakmark l true
 
 -- "A NAK names the last correct number + 1, is always a control frame, and is sent at most once until the next delivery."
 -- "Every control ACK stops the acknowledge timer; a control NAK doesn't."
 abbrev pub sendsNak : Link → List ℕ → Sending
-sendsNak l frame = cond (l .naked) (silent l frame) (sends (marked l) (nakFrame ((lastCorrect l + 1) % 4)) frame)
+sendsNak l frame = cond (l .nakmark) (silent l frame) (sends (marked l) (nakFrame (l .settings .format) ((lastCorrect l + 1) % 4)) frame)

@@ -6,8 +6,8 @@ use lib.ListN.{take, drop, set}
 use lib.Dec.{ltb}
 use Rattle.state.specs.declared.Link.{Link}
 use Rattle.state.specs.Bounds.{limitOf}
-use Rattle.state.specs.Fields.{withStarts, withCounts, withAcking}
-use Rattle.state.specs.State.{slotOf, lengthOf, countOf}
+use Rattle.state.specs.Fields.{withStarts, withRepeated, withAcking}
+use Rattle.state.specs.State.{slotOf, lengthOf, repeatedOf}
 
 -- "the slot's part of the lent buffer beginning where the slot begins"
 abbrev pub partOf : Link → ℕ → ℕ
@@ -21,15 +21,15 @@ packetOf l slots number = take (lengthOf l number) (drop (partOf l number) slots
 -- packet's timer starts, at its first sending and at each repeat.
 abbrev pub dataSent : Link → ℕ → ℕ → ℕ → Link
 dataSent l number ms count =
-    withAcking (withCounts (withStarts l (set (l .starts) (slotOf l number) ms)) (set (l .counts) (slotOf l number) count)) false
+    withAcking (withRepeated (withStarts l (set (l .starts) (slotOf l number) ms)) (set (l .repeated) (slotOf l number) count)) false
 
 -- "A repeat adds 1 to its count and restarts its timer."
 abbrev pub again : Link → ℕ → ℕ → Link
-again l number ms = dataSent l number ms (countOf l number + 1)
+again l number ms = dataSent l number ms (repeatedOf l number + 1)
 
 -- "has been repeated fewer than TRANS_REPEAT times"
 abbrev pub mayRepeat : Link → ℕ → Bool
-mayRepeat l number = ltb (countOf l number) (l .settings .repeats)
+mayRepeat l number = ltb (repeatedOf l number) (l .settings .repeats)
 
 -- ---- for the contracts of functions inside
 
@@ -38,5 +38,5 @@ mayRepeat l number = ltb (countOf l number) (l .settings .repeats)
 abbrev pub Ready : Link → ℕ → ℕ → ℕ → Type 0
 Ready l number slots frame =
     ((number ≤ 3) × (1 ≤ l .settings .window) × (l .settings .window ≤ 2))
-    × ((partOf l number + lengthOf l number ≤ slots) × (lengthOf l number + 5 ≤ l .settings .d))
-    × ((l .settings .d ≤ frame) × (countOf l number < 255))
+    × ((partOf l number + lengthOf l number ≤ slots) × (lengthOf l number + 5 ≤ l .settings .format .d))
+    × ((l .settings .format .d ≤ frame) × (repeatedOf l number < 255))

@@ -41,13 +41,13 @@ abbrev pub packetAccepted : Link → List ℕ → List ℕ → ℕ → List ℕ 
 packetAccepted l slots frame ms packet =
     after (record {
       state = sentFirst l ms (length packet);
-      sent = length (dataFrame (l .next) (lastCorrect l) packet);
+      sent = length (dataFrame (l .settings .format) (l .next) (lastCorrect l) packet);
       delivered = 0;
       dropped = 0;
       answer = done;
     })
     (put slots (partOf l (l .next)) packet)
-    (put frame 0 (dataFrame (l .next) (lastCorrect l) packet))
+    (put frame 0 (dataFrame (l .settings .format) (l .next) (lastCorrect l) packet))
 
 unfoldable pub submitted : Link → List ℕ → List ℕ → ℕ → List ℕ → After Outcome
 unfolding submitGate

@@ -9,9 +9,9 @@ ghost use lib.ListN.{length};
 ghost use Rattle.base.specs.Answer.{done};
 ghost use Rattle.base.specs.Buffer.{put};
 ghost use Rattle.state.specs.Gate.{after};
-ghost use Rattle.state.specs.State.{lengthOf, countOf};
+ghost use Rattle.state.specs.State.{lengthOf, repeatedOf};
 ghost use Rattle.send.specs.Repeat.{partOf, dataSent, mayRepeat, Ready};
-ghost use Rattle.send.specs.Makers.{sending, sendsRepeat, quiet, sendsAck, marked, sendsNak};
+ghost use Rattle.send.specs.Makers.{sending, sendsRepeat, ackStopped, sendsAck, marked, sendsNak};
 ghost use Rattle.send.specs.Submit.{submitGate, added, packetAccepted, submitted};
 
 // A state, and the length of the frame that was sent with it, 0 for none.
@@ -20,7 +20,7 @@ pub struct Sent {
     pub sent: u16,
 }
 
-pub fn end(s: Sent, answer: u8, delivered: u16) -> Outcome
+pub fn conclude(s: Sent, answer: u8, delivered: u16) -> Outcome
     ensures { λ r. ⌜ r ≡ record { state = s .state; sent = s .sent; delivered = delivered; dropped = 0; answer = answer } ⌝ }
 {
     let state = s.state;
@@ -51,19 +51,19 @@ fn length_of(l: Link, number: u8) -> usize
     l.lengths[slot] as usize
 }
 
-fn count_of(l: Link, number: u8) -> u8
+fn repeated_of(l: Link, number: u8) -> u8
     requires { ⌜ (1 ≤ l .settings .window) × (l .settings .window ≤ 2) ⌝ }
-    ensures { λ r. ⌜ r ≡ countOf l number ⌝ }
+    ensures { λ r. ⌜ r ≡ repeatedOf l number ⌝ }
 {
     let slot = state::slot_of(l, number);
-    l.counts[slot]
+    l.repeated[slot]
 }
 
 pub fn may_repeat(l: Link, number: u8) -> bool
     requires { ⌜ (1 ≤ l .settings .window) × (l .settings .window ≤ 2) ⌝ }
     ensures { λ r. ⌜ r ≡ mayRepeat l number ⌝ }
 {
-    count_of(l, number) < l.settings.repeats
+    repeated_of(l, number) < l.settings.repeats
 }
 
 // ---- a repeat
@@ -75,7 +75,7 @@ fn data_sent(l: Link, number: u8, ms: u32, count: u8) -> Link
     let slot = state::slot_of(l, number);
     let mut k = l;
     k.starts[slot] = ms;
-    k.counts[slot] = count;
+    k.repeated[slot] = count;
     k.acking = false;
     k
 }
@@ -86,15 +86,21 @@ pub fn repeat(l: Link, slots: &[u8], frame: &mut [u8], ms: u32, number: u8) -> S
 {
     let part = part_of(l, number);
     let end = part + length_of(l, number);
-    let sent = frame::write_data(frame, number, state::last_correct(l), &slots[part..end]);
-    let state = data_sent(l, number, ms, count_of(l, number) + 1);
+    let sent = frame::write_data(
+        l.settings.format,
+        frame,
+        number,
+        state::last_correct(l),
+        &slots[part..end],
+    );
+    let state = data_sent(l, number, ms, repeated_of(l, number) + 1);
     Sent { state, sent }
 }
 
 // ---- control frames
 
 fn stop_acknowledging(l: Link) -> Link
-    ensures { λ r. ⌜ r ≡ quiet l ⌝ }
+    ensures { λ r. ⌜ r ≡ ackStopped l ⌝ }
 {
     let mut k = l;
     k.acking = false;
@@ -105,7 +111,7 @@ pub fn send_ack(l: Link, frame: &mut [u8]) -> Sent
     requires { ⌜ 5 ≤ length (now frame) ⌝ }
     ensures { λ r. ⌜ sending r (now (frame .exit)) ≡ sendsAck l (now (frame .entry)) ⌝ }
 {
-    let sent = frame::write_ack(frame, state::last_correct(l));
+    let sent = frame::write_ack(l.settings.format, frame, state::last_correct(l));
     let state = stop_acknowledging(l);
     Sent { state, sent }
 }
@@ -114,7 +120,7 @@ fn mark(l: Link) -> Link
     ensures { λ r. ⌜ r ≡ marked l ⌝ }
 {
     let mut k = l;
-    k.naked = true;
+    k.nakmark = true;
     k
 }
 
@@ -122,10 +128,10 @@ pub fn send_nak(l: Link, frame: &mut [u8]) -> Sent
     requires { ⌜ 5 ≤ length (now frame) ⌝ }
     ensures { λ r. ⌜ sending r (now (frame .exit)) ≡ sendsNak l (now (frame .entry)) ⌝ }
 {
-    if l.naked {
+    if l.nakmark {
         return Sent { state: l, sent: 0 };
     }
-    let sent = frame::write_nak(frame, (state::last_correct(l) + 1) % 4);
+    let sent = frame::write_nak(l.settings.format, frame, (state::last_correct(l) + 1) % 4);
     let state = mark(l);
     Sent { state, sent }
 }
@@ -174,9 +180,15 @@ fn accept(l: Link, slots: &mut [u8], frame: &mut [u8], ms: u32, packet: &[u8]) -
     ensures { λ r. ⌜ after r (now (slots .exit)) (now (frame .exit)) ≡ packetAccepted l (now (slots .entry)) (now (frame .entry)) ms (now (packet .entry)) ⌝ }
 {
     store(l, slots, packet);
-    let sent = frame::write_data(frame, l.next, state::last_correct(l), packet);
+    let sent = frame::write_data(
+        l.settings.format,
+        frame,
+        l.next,
+        state::last_correct(l),
+        packet,
+    );
     let state = add(data_sent(l, l.next, ms, 0), packet.len() as u16);
-    end(Sent { state, sent }, answer::DONE, 0)
+    conclude(Sent { state, sent }, answer::DONE, 0)
 }
 
 pub fn submit(l: Link, slots: &mut [u8], frame: &mut [u8], ms: u32, packet: &[u8]) -> Outcome

@@ -25,24 +25,24 @@ use Rattle.state.specs.Formed.{InRange, LengthOk, Formed, Entered, Open}
 pub inRange-facts : (s : Settings) → inRange s ≡ true → InRange s
 unfolding inRange
 inRange-facts s e =
-    let d = within 16 (s .d) 1024 in
+    let d = within 16 (s .format .d) 1024 in
     let w = within 1 (s .window) 2 in
-    let t = within 2 (s .transmit) 1000 in
-    let a = leb 1 (s .acknowledge) && ltb (s .acknowledge) (s .transmit) in
+    let t = within 2 (s .transtimeout) 1000 in
+    let a = leb 1 (s .acktimeout) && ltb (s .acktimeout) (s .transtimeout) in
     let r = within 1 (s .repeats) 4 in
     let e4 : (d && w && t && a) ≡ true = and-left (d && w && t && a) r e in
     let e3 : (d && w && t) ≡ true = and-left (d && w && t) a e4 in
     let e2 : (d && w) ≡ true = and-left (d && w) t e3 in
     let ea : a ≡ true = and-right (d && w && t) a e4 in
     record {
-      d-lo = within-low 16 (s .d) 1024 (and-left d w e2);
-      d-hi = within-high 16 (s .d) 1024 (and-left d w e2);
+      d-lo = within-low 16 (s .format .d) 1024 (and-left d w e2);
+      d-hi = within-high 16 (s .format .d) 1024 (and-left d w e2);
       window-lo = within-low 1 (s .window) 2 (and-right d w e2);
       window-hi = within-high 1 (s .window) 2 (and-right d w e2);
-      transmit-lo = within-low 2 (s .transmit) 1000 (and-right (d && w) t e3);
-      transmit-hi = within-high 2 (s .transmit) 1000 (and-right (d && w) t e3);
-      acknowledge-lo = leb-true 1 (s .acknowledge) (and-left (leb 1 (s .acknowledge)) (ltb (s .acknowledge) (s .transmit)) ea);
-      acknowledge-hi = ltb-true (s .acknowledge) (s .transmit) (and-right (leb 1 (s .acknowledge)) (ltb (s .acknowledge) (s .transmit)) ea);
+      transtimeout-lo = within-low 2 (s .transtimeout) 1000 (and-right (d && w) t e3);
+      transtimeout-hi = within-high 2 (s .transtimeout) 1000 (and-right (d && w) t e3);
+      acktimeout-lo = leb-true 1 (s .acktimeout) (and-left (leb 1 (s .acktimeout)) (ltb (s .acktimeout) (s .transtimeout)) ea);
+      acktimeout-hi = ltb-true (s .acktimeout) (s .transtimeout) (and-right (leb 1 (s .acktimeout)) (ltb (s .acktimeout) (s .transtimeout)) ea);
       repeats-lo = within-low 1 (s .repeats) 4 (and-right (d && w && t && a) r e);
       repeats-hi = within-high 1 (s .repeats) 4 (and-right (d && w && t && a) r e);
     }
@@ -51,14 +51,14 @@ pub facts-inRange : (s : Settings) → InRange s → inRange s ≡ true
 unfolding inRange
 facts-inRange s f =
     rw (
-      le-leb 16 (s .d) (f .d-lo),
-      le-leb (s .d) 1024 (f .d-hi),
+      le-leb 16 (s .format .d) (f .d-lo),
+      le-leb (s .format .d) 1024 (f .d-hi),
       le-leb 1 (s .window) (f .window-lo),
       le-leb (s .window) 2 (f .window-hi),
-      le-leb 2 (s .transmit) (f .transmit-lo),
-      le-leb (s .transmit) 1000 (f .transmit-hi),
-      le-leb 1 (s .acknowledge) (f .acknowledge-lo),
-      lt-ltb (s .acknowledge) (s .transmit) (f .acknowledge-hi),
+      le-leb 2 (s .transtimeout) (f .transtimeout-lo),
+      le-leb (s .transtimeout) 1000 (f .transtimeout-hi),
+      le-leb 1 (s .acktimeout) (f .acktimeout-lo),
+      lt-ltb (s .acktimeout) (s .transtimeout) (f .acktimeout-hi),
       le-leb 1 (s .repeats) (f .repeats-lo),
       le-leb (s .repeats) 4 (f .repeats-hi),
     )
@@ -99,8 +99,8 @@ record Numbers (l : Link) : Type 0 where
   waiting : leb (l .waiting) (l .settings .window) ≡ true
   newest : (ltb (l .waiting) 1 || lengthOk l (sentBefore l 0)) ≡ true
   older : (ltb (l .waiting) 2 || lengthOk l (sentBefore l 1)) ≡ true
-  count0 : leb (getD (l .counts) 0 0) (l .settings .repeats) ≡ true
-  count1 : leb (getD (l .counts) 1 0) (l .settings .repeats) ≡ true
+  count0 : leb (getD (l .repeated) 0 0) (l .settings .repeats) ≡ true
+  count1 : leb (getD (l .repeated) 1 0) (l .settings .repeats) ≡ true
 
 numbers : (l : Link) → numbersOk l ≡ true → Numbers l
 unfolding numbersOk
@@ -110,8 +110,8 @@ numbers l e =
     let w = leb (l .waiting) (l .settings .window) in
     let a = ltb (l .waiting) 1 || lengthOk l (sentBefore l 0) in
     let b = ltb (l .waiting) 2 || lengthOk l (sentBefore l 1) in
-    let c = leb (getD (l .counts) 0 0) (l .settings .repeats) in
-    let d = leb (getD (l .counts) 1 0) (l .settings .repeats) in
+    let c = leb (getD (l .repeated) 0 0) (l .settings .repeats) in
+    let d = leb (getD (l .repeated) 1 0) (l .settings .repeats) in
     let e6 : (n && x && w && a && b && c) ≡ true = and-left (n && x && w && a && b && c) d e in
     let e5 : (n && x && w && a && b) ≡ true = and-left (n && x && w && a && b) c e6 in
     let e4 : (n && x && w && a) ≡ true = and-left (n && x && w && a) b e5 in
@@ -133,10 +133,10 @@ waiting-lengths l f h zero w = length-facts l 0 (or-right (ltb (l .waiting) 1) _
 waiting-lengths l f h (suc zero) w = length-facts l 1 (or-right (ltb (l .waiting) 2) _ (f .older) (le-ltb (l .waiting) 2 w))
 waiting-lengths l f h (suc (suc n)) w = absurd (omega (arith, leb-true (l .waiting) (l .settings .window) (f .waiting)))
 
-both-counts : (l : Link) → Numbers l → (i : ℕ) → i < 2 → getD (l .counts) i 0 ≤ l .settings .repeats
-both-counts l f zero h = leb-true (getD (l .counts) 0 0) (l .settings .repeats) (f .count0)
-both-counts l f (suc zero) h = leb-true (getD (l .counts) 1 0) (l .settings .repeats) (f .count1)
-both-counts l f (suc (suc i)) h = absurd (omega arith)
+both-repeated : (l : Link) → Numbers l → (i : ℕ) → i < 2 → getD (l .repeated) i 0 ≤ l .settings .repeats
+both-repeated l f zero h = leb-true (getD (l .repeated) 0 0) (l .settings .repeats) (f .count0)
+both-repeated l f (suc zero) h = leb-true (getD (l .repeated) 1 0) (l .settings .repeats) (f .count1)
+both-repeated l f (suc (suc i)) h = absurd (omega arith)
 
 pub wellFormed-facts : (l : Link) → wellFormed l ≡ true → Formed l
 unfolding wellFormed
@@ -149,7 +149,7 @@ wellFormed-facts l e =
       expected = leb-true (l .expected) 3 (f .expected);
       waiting = leb-true (l .waiting) (l .settings .window) (f .waiting);
       lengths = waiting-lengths l f (s .window-hi);
-      counts = both-counts l f;
+      repeated = both-repeated l f;
     }
 
 unless-fewer : (l : Link) (n : ℕ) → ((n < l .waiting) → LengthOk l n) → (ltb (l .waiting) (suc n) || lengthOk l (sentBefore l n)) ≡ true
@@ -169,8 +169,8 @@ facts-wellFormed l f =
       le-leb (l .waiting) (l .settings .window) (f .waiting),
       unless-fewer l 0 (f .lengths 0),
       unless-fewer l 1 (f .lengths 1),
-      le-leb (getD (l .counts) 0 0) (l .settings .repeats) (f .counts 0 (omega arith)),
-      le-leb (getD (l .counts) 1 0) (l .settings .repeats) (f .counts 1 (omega arith)),
+      le-leb (getD (l .repeated) 0 0) (l .settings .repeats) (f .repeated 0 (omega arith)),
+      le-leb (getD (l .repeated) 1 0) (l .settings .repeats) (f .repeated 1 (omega arith)),
     )
 
 -- ---- the gate

@@ -23,52 +23,52 @@ use Rattle.state.proofs.Facts.{inRange-facts, wellFormed-facts, facts-w
 
 -- all that a call but submit and a reset may change
 abbrev pub changed : Link → List ℕ → List ℕ → ℕ → ℕ → ℕ → Bool → Bool → Bool → Link
-changed l starts counts ackstart expected waiting acking naked lost = record {
+changed l starts repeated ackstart expected waiting acking nakmark lost = record {
   settings = l .settings;
   starts = starts;
   ackstart = ackstart;
   lengths = l .lengths;
-  counts = counts;
+  repeated = repeated;
   next = l .next;
   expected = expected;
   waiting = waiting;
   acking = acking;
-  naked = naked;
+  nakmark = nakmark;
   lost = lost;
 }
 
-pub changed-sound : (l : Link) (starts counts : List ℕ) (ackstart expected waiting : ℕ) (acking naked lost : Bool) → Sound l
-    → length starts ≡ 2 → length counts ≡ 2 → expected ≤ 3 → waiting ≤ l .waiting → ((i : ℕ) → i < 2 → getD counts i 0 ≤ l .settings .repeats)
-    → Sound (changed l starts counts ackstart expected waiting acking naked lost)
-changed-sound l starts counts ackstart expected waiting acking naked lost s st co e w c =
+pub changed-sound : (l : Link) (starts repeated : List ℕ) (ackstart expected waiting : ℕ) (acking nakmark lost : Bool) → Sound l
+    → length starts ≡ 2 → length repeated ≡ 2 → expected ≤ 3 → waiting ≤ l .waiting → ((i : ℕ) → i < 2 → getD repeated i 0 ≤ l .settings .repeats)
+    → Sound (changed l starts repeated ackstart expected waiting acking nakmark lost)
+changed-sound l starts repeated ackstart expected waiting acking nakmark lost s st co e w c =
     let f : Formed l = wellFormed-facts l (s .formed) in
-    let k : Link = changed l starts counts ackstart expected waiting acking naked lost in
+    let k : Link = changed l starts repeated ackstart expected waiting acking nakmark lost in
     record {
       starts = st;
       lengths = s .lengths;
-      counts = co;
+      repeated = co;
       formed = facts-wellFormed k (record {
         settings = f .settings;
         next = f .next;
         expected = e;
         waiting = omega (arith, f .waiting);
         lengths = λ n h. let waits : n < l .waiting = omega arith in record { least = f .lengths n waits .least; most = f .lengths n waits .most };
-        counts = c;
+        repeated = c;
       });
     }
 
 -- marks and the acknowledge timer: no more than these change
-pub marked-sound : (l : Link) (ackstart : ℕ) (acking naked lost : Bool) → Sound l
-    → Sound (changed l (l .starts) (l .counts) ackstart (l .expected) (l .waiting) acking naked lost)
-marked-sound l ackstart acking naked lost s =
+pub marked-sound : (l : Link) (ackstart : ℕ) (acking nakmark lost : Bool) → Sound l
+    → Sound (changed l (l .starts) (l .repeated) ackstart (l .expected) (l .waiting) acking nakmark lost)
+marked-sound l ackstart acking nakmark lost s =
     let f : Formed l = wellFormed-facts l (s .formed) in
-    changed-sound l (l .starts) (l .counts) ackstart (l .expected) (l .waiting) acking naked lost s (s .starts) (s .counts) (f .expected) (omega arith) (f .counts)
+    changed-sound l (l .starts) (l .repeated) ackstart (l .expected) (l .waiting) acking nakmark lost s (s .starts) (s .repeated) (f .expected) (omega arith) (f .repeated)
 
-no-counts : (s : Settings) (i : ℕ) → i < 2 → getD (freshOf s .counts) i 0 ≤ s .repeats
+no-repeated : (s : Settings) (i : ℕ) → i < 2 → getD (freshOf s .repeated) i 0 ≤ s .repeats
 unfolding freshOf
-no-counts s zero h = omega arith
-no-counts s (suc zero) h = omega arith
-no-counts s (suc (suc i)) h = absurd (omega arith)
+no-repeated s zero h = omega arith
+no-repeated s (suc zero) h = omega arith
+no-repeated s (suc (suc i)) h = absurd (omega arith)
 
 pub fresh-sound : (s : Settings) → InRange s → Sound (freshOf s)
 unfolding freshOf
@@ -76,14 +76,14 @@ fresh-sound s r =
     record {
       starts = refl;
       lengths = refl;
-      counts = refl;
+      repeated = refl;
       formed = facts-wellFormed (freshOf s) (record {
         settings = r;
         next = omega arith;
         expected = omega arith;
         waiting = omega arith;
         lengths = λ n h. absurd (omega arith);
-        counts = no-counts s;
+        repeated = no-repeated s;
       });
     }
 

@@ -16,7 +16,7 @@ use Rattle.state.specs.Gate.{After, after, only, gated, entryOf}
 
 -- "a state of zeros, to which every link call answers 1"
 abbrev pub zeros : Link
-zeros = freshOf (record { d = 0; transmit = 0; acknowledge = 0; window = 0; repeats = 0 })
+zeros = freshOf (record { format = record { d = 0 }; transtimeout = 0; acktimeout = 0; window = 0; repeats = 0 })
 
 -- start, of the settings and the length of the slot buffer: "start 1, 2"; "start: a state of zeros"; "start as with 1"
 unfoldable pub started : Settings → ℕ → Outcome
@@ -27,7 +27,7 @@ started s slots =
 -- "Resynchronise sends the reset frame, C0 00 00 9A 0A, and makes the end fresh, lost or not, dropping what waits."
 abbrev pub resetSent : Link → List ℕ → List ℕ → After Outcome
 resetSent l slots frame =
-    after (record { state = renewed l; sent = length resetFrame; delivered = 0; dropped = l .waiting; answer = done }) slots (put frame 0 resetFrame)
+    after (record { state = renewed l; sent = length (resetFrame (l .settings .format)); delivered = 0; dropped = l .waiting; answer = done }) slots (put frame 0 (resetFrame (l .settings .format)))
 
 -- "(all but start and resynchronise)": 1 and 2 are asked, and not 3, for this is the way out of a lost link
 unfoldable pub resynchronised : Link → List ℕ → List ℕ → After Outcome

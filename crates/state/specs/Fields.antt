@@ -10,12 +10,12 @@ withStarts l starts = record {
   starts = starts;
   ackstart = l .ackstart;
   lengths = l .lengths;
-  counts = l .counts;
+  repeated = l .repeated;
   next = l .next;
   expected = l .expected;
   waiting = l .waiting;
   acking = l .acking;
-  naked = l .naked;
+  nakmark = l .nakmark;
   lost = l .lost;
 }
 
@@ -25,12 +25,12 @@ withAckstart l ackstart = record {
   starts = l .starts;
   ackstart = ackstart;
   lengths = l .lengths;
-  counts = l .counts;
+  repeated = l .repeated;
   next = l .next;
   expected = l .expected;
   waiting = l .waiting;
   acking = l .acking;
-  naked = l .naked;
+  nakmark = l .nakmark;
   lost = l .lost;
 }
 
@@ -40,27 +40,27 @@ withLengths l lengths = record {
   starts = l .starts;
   ackstart = l .ackstart;
   lengths = lengths;
-  counts = l .counts;
+  repeated = l .repeated;
   next = l .next;
   expected = l .expected;
   waiting = l .waiting;
   acking = l .acking;
-  naked = l .naked;
+  nakmark = l .nakmark;
   lost = l .lost;
 }
 
-abbrev pub withCounts : Link → List ℕ → Link
-withCounts l counts = record {
+abbrev pub withRepeated : Link → List ℕ → Link
+withRepeated l repeated = record {
   settings = l .settings;
   starts = l .starts;
   ackstart = l .ackstart;
   lengths = l .lengths;
-  counts = counts;
+  repeated = repeated;
   next = l .next;
   expected = l .expected;
   waiting = l .waiting;
   acking = l .acking;
-  naked = l .naked;
+  nakmark = l .nakmark;
   lost = l .lost;
 }
 
@@ -70,12 +70,12 @@ withNext l next = record {
   starts = l .starts;
   ackstart = l .ackstart;
   lengths = l .lengths;
-  counts = l .counts;
+  repeated = l .repeated;
   next = next;
   expected = l .expected;
   waiting = l .waiting;
   acking = l .acking;
-  naked = l .naked;
+  nakmark = l .nakmark;
   lost = l .lost;
 }
 
@@ -85,12 +85,12 @@ withExpected l expected = record {
   starts = l .starts;
   ackstart = l .ackstart;
   lengths = l .lengths;
-  counts = l .counts;
+  repeated = l .repeated;
   next = l .next;
   expected = expected;
   waiting = l .waiting;
   acking = l .acking;
-  naked = l .naked;
+  nakmark = l .nakmark;
   lost = l .lost;
 }
 
@@ -100,12 +100,12 @@ withWaiting l waiting = record {
   starts = l .starts;
   ackstart = l .ackstart;
   lengths = l .lengths;
-  counts = l .counts;
+  repeated = l .repeated;
   next = l .next;
   expected = l .expected;
   waiting = waiting;
   acking = l .acking;
-  naked = l .naked;
+  nakmark = l .nakmark;
   lost = l .lost;
 }
 
@@ -115,27 +115,27 @@ withAcking l acking = record {
   starts = l .starts;
   ackstart = l .ackstart;
   lengths = l .lengths;
-  counts = l .counts;
+  repeated = l .repeated;
   next = l .next;
   expected = l .expected;
   waiting = l .waiting;
   acking = acking;
-  naked = l .naked;
+  nakmark = l .nakmark;
   lost = l .lost;
 }
 
-abbrev pub withNaked : Link → Bool → Link
-withNaked l naked = record {
+abbrev pub withNakmark : Link → Bool → Link
+withNakmark l nakmark = record {
   settings = l .settings;
   starts = l .starts;
   ackstart = l .ackstart;
   lengths = l .lengths;
-  counts = l .counts;
+  repeated = l .repeated;
   next = l .next;
   expected = l .expected;
   waiting = l .waiting;
   acking = l .acking;
-  naked = naked;
+  nakmark = nakmark;
   lost = l .lost;
 }
 
@@ -145,11 +145,11 @@ withLost l lost = record {
   starts = l .starts;
   ackstart = l .ackstart;
   lengths = l .lengths;
-  counts = l .counts;
+  repeated = l .repeated;
   next = l .next;
   expected = l .expected;
   waiting = l .waiting;
   acking = l .acking;
-  naked = l .naked;
+  nakmark = l .nakmark;
   lost = lost;
 }

@@ -10,14 +10,14 @@ use Rattle.state.specs.Bounds.{limitOf, slotsNeed, frameNeed}
 use Rattle.state.specs.State.{sentBefore, lengthOf, wellFormed}
 
 pub record InRange (s : Settings) : Type 0 where
-  pub d-lo : 16 ≤ s .d
-  pub d-hi : s .d ≤ 1024
+  pub d-lo : 16 ≤ s .format .d
+  pub d-hi : s .format .d ≤ 1024
   pub window-lo : 1 ≤ s .window
   pub window-hi : s .window ≤ 2
-  pub transmit-lo : 2 ≤ s .transmit
-  pub transmit-hi : s .transmit ≤ 1000
-  pub acknowledge-lo : 1 ≤ s .acknowledge
-  pub acknowledge-hi : s .acknowledge < s .transmit
+  pub transtimeout-lo : 2 ≤ s .transtimeout
+  pub transtimeout-hi : s .transtimeout ≤ 1000
+  pub acktimeout-lo : 1 ≤ s .acktimeout
+  pub acktimeout-hi : s .acktimeout < s .transtimeout
   pub repeats-lo : 1 ≤ s .repeats
   pub repeats-hi : s .repeats ≤ 4
 
@@ -32,7 +32,7 @@ pub record Formed (l : Link) : Type 0 where
   pub expected : l .expected ≤ 3
   pub waiting : l .waiting ≤ l .settings .window
   pub lengths : (n : ℕ) → n < l .waiting → LengthOk l n
-  pub counts : (i : ℕ) → i < 2 → getD (l .counts) i 0 ≤ l .settings .repeats
+  pub repeated : (i : ℕ) → i < 2 → getD (l .repeated) i 0 ≤ l .settings .repeats
 
 pub record Entered (l : Link) (slots frame : ℕ) : Type 0 where
   pub formed : Formed l
@@ -48,5 +48,5 @@ pub record Open (l : Link) (slots frame : ℕ) : Type 0 where
 pub record Sound (l : Link) : Type 0 where
   pub starts : length (l .starts) ≡ 2
   pub lengths : length (l .lengths) ≡ 2
-  pub counts : length (l .counts) ≡ 2
+  pub repeated : length (l .repeated) ≡ 2
   pub formed : wellFormed l ≡ true

@@ -42,8 +42,8 @@ lengthOf l number = getD (l .lengths) (slotOf l number) 0
 abbrev pub startOf : Link → ℕ → ℕ
 startOf l number = getD (l .starts) (slotOf l number) 0
 
-abbrev pub countOf : Link → ℕ → ℕ
-countOf l number = getD (l .counts) (slotOf l number) 0
+abbrev pub repeatedOf : Link → ℕ → ℕ
+repeatedOf l number = getD (l .repeated) (slotOf l number) 0
 
 -- ---- well formed
 
@@ -60,8 +60,8 @@ numbersOk l =
     && leb (l .waiting) (l .settings .window)
     && (ltb (l .waiting) 1 || lengthOk l (sentBefore l 0))
     && (ltb (l .waiting) 2 || lengthOk l (sentBefore l 1))
-    && leb (getD (l .counts) 0 0) (l .settings .repeats)
-    && leb (getD (l .counts) 1 0) (l .settings .repeats)
+    && leb (getD (l .repeated) 0 0) (l .settings .repeats)
+    && leb (getD (l .repeated) 1 0) (l .settings .repeats)
 
 unfoldable pub wellFormed : Link → Bool
 unfolding inRange numbersOk
@@ -76,12 +76,12 @@ freshOf s = record {
   starts = 0 ∷ 0 ∷ [];
   ackstart = 0;
   lengths = 0 ∷ 0 ∷ [];
-  counts = 0 ∷ 0 ∷ [];
+  repeated = 0 ∷ 0 ∷ [];
   next = 0;
   expected = 0;
   waiting = 0;
   acking = false;
-  naked = false;
+  nakmark = false;
   lost = false;
 }
 

@@ -1,5 +1,6 @@
 // What an end keeps: its settings and its state, when they are well formed, the gate 1, 2, 3, fresh, timers; start and resynchronise.
 use base::answer;
+use frame::Format;
 ghost use mathlib.Core.Path.{_≡_};
 ghost use Prim.Native.Nat.{_≤_, _<_};
 ghost use lib.ListN.{length};
@@ -10,9 +11,9 @@ ghost use Rattle.state.specs.Timer.{elapsed, due};
 ghost use Rattle.state.specs.Calls.{zeros, started, resetSent, resynchronised};
 
 pub struct Settings {
-    pub d: u16,
-    pub transmit: u16,
-    pub acknowledge: u16,
+    pub format: Format,
+    pub transtimeout: u16,
+    pub acktimeout: u16,
     pub window: u8,
     pub repeats: u8,
 }
@@ -22,12 +23,12 @@ pub struct Link {
     pub starts: [u32; 2],
     pub ackstart: u32,
     pub lengths: [u16; 2],
-    pub counts: [u8; 2],
+    pub repeated: [u8; 2],
     pub next: u8,
     pub expected: u8,
     pub waiting: u8,
     pub acking: bool,
-    pub naked: bool,
+    pub nakmark: bool,
     pub lost: bool,
 }
 
@@ -72,7 +73,11 @@ pub fn slot_of(l: Link, number: u8) -> usize
 pub fn limit(s: Settings) -> usize
     ensures { λ r. ⌜ r ≡ limitOf s ⌝ }
 {
-    if 5 <= s.d { (s.d - 5) as usize } else { 0 }
+    if 5 <= s.format.d {
+        (s.format.d - 5) as usize
+    } else {
+        0
+    }
 }
 
 // ---- well formed
@@ -80,10 +85,10 @@ pub fn limit(s: Settings) -> usize
 fn in_range(s: Settings) -> bool
     ensures { λ r. ⌜ r ≡ inRange s ⌝ }
 {
-    ((16 <= s.d) & (s.d <= 1024))
+    ((16 <= s.format.d) & (s.format.d <= 1024))
         & ((1 <= s.window) & (s.window <= 2))
-        & ((2 <= s.transmit) & (s.transmit <= 1000))
-        & ((1 <= s.acknowledge) & (s.acknowledge < s.transmit))
+        & ((2 <= s.transtimeout) & (s.transtimeout <= 1000))
+        & ((1 <= s.acktimeout) & (s.acktimeout < s.transtimeout))
         & ((1 <= s.repeats) & (s.repeats <= 4))
 }
 
@@ -107,8 +112,8 @@ fn numbers_ok(l: Link) -> bool
         & (l.waiting <= l.settings.window)
         & ((l.waiting < 1) | newest)
         & ((l.waiting < 2) | older)
-        & (l.counts[0] <= l.settings.repeats)
-        & (l.counts[1] <= l.settings.repeats)
+        & (l.repeated[0] <= l.settings.repeats)
+        & (l.repeated[1] <= l.settings.repeats)
 }
 
 // The settings are tested first: nothing of the rest is looked up by a window out of range.
@@ -136,7 +141,7 @@ pub fn answer_only(l: Link, answer: u8) -> Outcome
 }
 
 fn slots_need(s: Settings) -> usize
-    requires { ⌜ (s .d ≤ 1024) × (s .window ≤ 2) ⌝ }
+    requires { ⌜ (s .format .d ≤ 1024) × (s .window ≤ 2) ⌝ }
     ensures { λ r. ⌜ r ≡ slotsNeed s ⌝ }
 {
     (s.window as usize) * limit(s)
@@ -146,7 +151,7 @@ fn entry(l: Link, slots: usize, frame: usize) -> u8
     ensures { λ r. ⌜ r ≡ entryOf l slots frame ⌝ }
 {
     if well_formed(l) {
-        if (slots < slots_need(l.settings)) | (frame < l.settings.d as usize) {
+        if (slots < slots_need(l.settings)) | (frame < l.settings.format.d as usize) {
             return answer::SHORT_BUFFER;
         }
         return answer::DONE;
@@ -177,12 +182,12 @@ pub fn fresh(s: Settings) -> Link
         starts: [0, 0],
         ackstart: 0,
         lengths: [0, 0],
-        counts: [0, 0],
+        repeated: [0, 0],
         next: 0,
         expected: 0,
         waiting: 0,
         acking: false,
-        naked: false,
+        nakmark: false,
         lost: false,
     }
 }
@@ -214,9 +219,9 @@ fn zero_state() -> Link
     ensures { λ r. ⌜ r ≡ zeros ⌝ }
 {
     fresh(Settings {
-        d: 0,
-        transmit: 0,
-        acknowledge: 0,
+        format: Format { d: 0 },
+        transtimeout: 0,
+        acktimeout: 0,
         window: 0,
         repeats: 0,
     })
@@ -238,7 +243,7 @@ fn send_reset(l: Link, slots: &[u8], frame: &mut [u8]) -> Outcome
     requires { ⌜ 5 ≤ length (now frame) ⌝ }
     ensures { λ r. ⌜ after r (now (slots .entry)) (now (frame .exit)) ≡ resetSent l (now (slots .entry)) (now (frame .entry)) ⌝ }
 {
-    let sent = frame::write_reset(frame);
+    let sent = frame::write_reset(l.settings.format, frame);
     let state = renew(l);
     Outcome {
         state,

@@ -6,7 +6,7 @@ use Rattle.clock.proofs.acknowledge_if.Statement.{statement}
 use Rattle.clock.proofs.acknowledge_if.Tie as tie
 
 returns : tie.Need-returns
-returns c = rw (c .before .before .before .before .before .if1 .taken) (ended _ _ _ _ _ _ _ (c .end .ensures) (c .before .before .before .send-ack .ensures))
+returns c = rw (c .before .before .before .before .before .if1 .taken) (ended _ _ _ _ _ _ _ (c .conclude .ensures) (c .before .before .before .send-ack .ensures))
 
 returns-2 : tie.Need-returns-2
 returns-2 c = rw (c .before .if1 .left, c .answer-only .ensures)

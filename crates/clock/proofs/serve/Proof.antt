@@ -10,7 +10,7 @@ repeat-requires : tie.Need-repeat-requires
 repeat-requires c κs = c .before .before .before .before .before .pre .1 (sym (c .before .before .may-repeat .ensures) ∙ c .before .if1 .taken)
 
 returns : tie.Need-returns
-returns c = rw (← c .before .before .before .before .before .before .may-repeat .ensures, c .before .before .before .before .before .if1 .taken) (ended _ _ _ _ _ _ _ (c .end .ensures) (c .before .before .before .repeat .ensures))
+returns c = rw (← c .before .before .before .before .before .before .may-repeat .ensures, c .before .before .before .before .before .if1 .taken) (ended _ _ _ _ _ _ _ (c .conclude .ensures) (c .before .before .before .repeat .ensures))
 
 returns-2 : tie.Need-returns-2
 returns-2 c = rw (← c .before .before .may-repeat .ensures, c .before .if1 .left, c .lose .ensures)

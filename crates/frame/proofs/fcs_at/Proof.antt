@@ -14,7 +14,7 @@ slice-aggregate-checksum c = sym (length-take-le _ _ (omega arith))
 returns : tie.Need-returns
 returns c = let right = c .before .before in
     let a = right .before .before .before .before .args in
-    fcsAt-read (a .frame .now) (right .fcs-bytes .result) (a .at) (right .before .checksum .result) (omega arith)
+    fcsAt-read (a .format) (a .frame .now) (right .fcs-bytes .result) (a .at) (right .before .checksum .result) (omega arith)
     (right .before .checksum .ensures) (right .fcs-bytes .ensures)
 
 pub fcs-at-spec : {M : Type 1} → statement M

@@ -17,7 +17,7 @@ slice-write-frame-2 c = simp length-set (omega arith)
 
 returns : tie.Need-returns
 returns c = let a = c .before .before .before .before .args in
-    seal-written (a .frame .now) (c .fcs-bytes .result) (a .covered) (c .before .checksum .result) (omega arith) (c .before .checksum .ensures)
+    seal-written (a .format) (a .frame .now) (c .fcs-bytes .result) (a .covered) (c .before .checksum .result) (omega arith) (c .before .checksum .ensures)
     (c .fcs-bytes .ensures)
 
 pub seal-spec : {M : Type 1} → statement M

@@ -12,7 +12,7 @@ use Rattle.frame.proofs.write_data.Tie as tie
 returns : tie.Need-returns
 unfolding frameOf
 returns c = let a = c .before .before .before .before .before .before .before .before .before .before .before .before .before .before .args in
-    sealed-written (a .frame .now) _ (c .before .before .before .before .before .before .copy-at .last .0) _ _ (3 + length (a .packet .now)) (omega arith) (omega arith)
+    sealed-written (a .format) (a .frame .now) _ (c .before .before .before .before .before .before .copy-at .last .0) _ _ (3 + length (a .packet .now)) (omega arith) (omega arith)
     (body-put (a .frame .now) (c .before .before .before .before .before .before .before .before .before .before .put-head .last .0) (c .before .before .before .before .before .before .copy-at .last .0) (a .packet .now) _ (omega arith) (c .before .before .before .before .before .before .before .before .before .before .put-head .ensures)
     (c .before .before .before .before .before .before .copy-at .ensures))
     (c .before .before .seal .ensures)

@@ -16,7 +16,7 @@ repeat-or-nothing-requires : tie.Need-repeat-or-nothing-requires
 repeat-or-nothing-requires c κs = λ e. repeatable-ready _ _ _ _ (gateOf-facts _ _ _ (c .before .before .before .before .pre .0)) (c .before .before .before .before .pre .1) (sym (c .before .is-repeatable .ensures) ∙ e)
 
 returns : tie.Need-returns
-returns c = rw (← c .before .before .before .before .before .is-repeatable .ensures) (ended _ _ _ _ _ _ _ (c .end .ensures) (c .before .before .before .repeat-or-nothing .ensures))
+returns c = rw (← c .before .before .before .before .before .is-repeatable .ensures) (ended _ _ _ _ _ _ _ (c .conclude .ensures) (c .before .before .before .repeat-or-nothing .ensures))
 
 pub obey-nak-spec : {M : Type 1} → statement M
 obey-nak-spec = tie.close (tie.spec is-repeatable-requires repeat-or-nothing-requires (λ c κs. search needs) (λ c. search needs) returns)

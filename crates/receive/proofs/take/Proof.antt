@@ -3,7 +3,7 @@
 use mathlib.Core.Path.{sym, _∙_}
 use borrow.Author.Tests.{ne-eqb, eq-eqb}
 use Rattle.frame.proofs.Hearing.{number-heard}
-use Rattle.receive.specs.Take.{taken}
+use Rattle.receive.specs.Take.{frameTaken}
 use borrow.Author.Needs.{needs}
 use Rattle.receive.proofs.take.Statement.{statement}
 use Rattle.receive.proofs.take.Tie as tie
@@ -12,11 +12,11 @@ obey-requires : tie.Need-obey-requires
 obey-requires c κs = (sym (c .before .before .before .gate .ensures) ∙ c .before .before .if1 .taken, rw (c .before .hear .ensures) (number-heard _ _))
 
 returns : tie.Need-returns
-unfolding taken
+unfolding frameTaken
 returns c = rw (← c .before .before .before .before .before .before .gate .ensures, eq-eqb _ _ (c .before .before .before .before .before .if1 .taken), ← c .before .before .before .before .hear .ensures) (c .before .before .obey .ensures)
 
 returns-2 : tie.Need-returns-2
-unfolding taken
+unfolding frameTaken
 returns-2 c = rw (← c .before .before .gate .ensures, ne-eqb _ _ (c .before .if1 .left), c .answer-only .ensures)
 
 pub take-spec : {M : Type 1} → statement M

@@ -18,14 +18,14 @@ repeat-or-nothing-requires : tie.Need-repeat-or-nothing-requires
 repeat-or-nothing-requires c κs = rw (c .before .deliver .ensures, c .before .before .before .before .obey-acknowledgement .ensures, c .before .before .before .before .before .is-repeatable .ensures) (nak-ready _ (c .before .before .before .before .before .before .before .before .args .nak) _ _ _ (gateOf-facts _ _ _ (c .before .before .before .before .before .before .before .before .pre .0)) (c .before .before .before .before .before .before .before .before .pre .1))
 
 returns : tie.Need-returns
-returns c = delivered-data _ _ _ _ _ _ _ _ _ _ _ _ (c .before .before .before .before .before .before .if1 .taken) (c .before .before .before .before .before .before .before .before .before .is-repeatable .ensures) (c .before .before .before .before .before .before .before .before .obey-acknowledgement .ensures) (c .before .before .before .before .before .deliver .ensures) (ended _ _ _ _ _ _ _ (c .end .ensures) (c .before .before .before .repeat-or-nothing .ensures))
+returns c = delivered-data _ _ _ _ _ _ _ _ _ _ _ _ (c .before .before .before .before .before .before .if1 .taken) (c .before .before .before .before .before .before .before .before .before .is-repeatable .ensures) (c .before .before .before .before .before .before .before .before .obey-acknowledgement .ensures) (c .before .before .before .before .before .deliver .ensures) (ended _ _ _ _ _ _ _ (c .conclude .ensures) (c .before .before .before .repeat-or-nothing .ensures))
 
 repeat-or-ack-requires : tie.Need-repeat-or-ack-requires
 repeat-or-ack-requires c κs = let o = gateOf-facts _ _ _ (c .before .before .before .before .before .before .before .pre .0) in
     rw (c .before .before .before .obey-acknowledgement .ensures, c .before .before .before .before .is-repeatable .ensures) (nak-ready _ (c .before .before .before .before .before .before .before .args .nak) _ _ _ o (c .before .before .before .before .before .before .before .pre .1), control-fits _ _ _ (o .entered))
 
 returns-2 : tie.Need-returns-2
-returns-2 c = unexpected-data _ _ _ _ _ _ _ _ _ _ _ (c .before .before .before .before .before .if1 .left) (c .before .before .before .before .before .before .before .before .is-repeatable .ensures) (c .before .before .before .before .before .before .before .obey-acknowledgement .ensures) (ended _ _ _ _ _ _ _ (c .end2 .ensures) (c .before .before .before .repeat-or-ack .ensures))
+returns-2 c = unexpected-data _ _ _ _ _ _ _ _ _ _ _ (c .before .before .before .before .before .if1 .left) (c .before .before .before .before .before .before .before .before .is-repeatable .ensures) (c .before .before .before .before .before .before .before .obey-acknowledgement .ensures) (ended _ _ _ _ _ _ _ (c .conclude2 .ensures) (c .before .before .before .repeat-or-ack .ensures))
 
 pub take-data-spec : {M : Type 1} → statement M
 take-data-spec = tie.close (tie.spec is-repeatable-requires (λ c κs. search needs) deliver-requires repeat-or-nothing-requires (λ c κs. search needs) (λ c. search needs) returns repeat-or-ack-requires (λ c κs. search needs) (λ c. search needs) returns-2)

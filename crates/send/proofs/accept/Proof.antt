@@ -30,7 +30,7 @@ same-length c = let a = submitGate-facts _ _ _ _ (c .before .before .before .bef
     rw (c .before .before .before .before .before .before .before .before .before .before .store .ensures) (put-length _ _ _ (part-fits _ _ _ _ _ (a .gate) (a .most)))
 
 returns : tie.Need-returns
-returns c = rw (c .end .ensures, c .before .add .ensures, c .before .before .data-sent .ensures, c .before .before .before .before .before .write-data .ensures .told, c .before .before .before .before .before .write-data .ensures .bytes, c .before .before .before .before .before .before .last-correct .ensures .0, c .before .before .before .before .before .before .before .before .before .before .store .ensures)
+returns c = rw (c .conclude .ensures, c .before .add .ensures, c .before .before .data-sent .ensures, c .before .before .before .before .before .write-data .ensures .told, c .before .before .before .before .before .write-data .ensures .bytes, c .before .before .before .before .before .before .last-correct .ensures .0, c .before .before .before .before .before .before .before .before .before .before .store .ensures)
 
 pub accept-spec : {M : Type 1} → statement M
 accept-spec = tie.close (tie.spec store-requires (λ c κs. search needs) write-data-requires data-sent-requires cast-add add-requires (λ c κs. search needs) same-length (λ c. search needs) returns)
