@@ -1,34 +1,24 @@
 -- look and acknowledge, on every input. Document 01, "Sending".
 use Prim.Native.Nat.{ℕ, _-_}
-use mathlib.Core.Bool.{Bool, true, cond, _&&_}
+use mathlib.Core.Bool.{Bool, true, cond}
 use mathlib.Core.List.{List}
 use lib.ListN.{length}
-use lib.Dec.{ltb}
 use Rattle.base.specs.Answer.{done, linkLost}
 use Rattle.state.specs.declared.Link.{Link}
 use Rattle.state.specs.declared.Outcome.{Outcome}
 use Rattle.state.specs.Fields.{withLost}
-use Rattle.state.specs.State.{sentBefore, startOf}
+use Rattle.state.specs.State.{sentBefore}
 use Rattle.state.specs.Gate.{After, after, gated, gateOf, only}
-use Rattle.state.specs.Timer.{due}
+use Rattle.state.specs.Timer.{packetDue, acknowledgeDue}
 use Rattle.send.specs.Repeat.{mayRepeat}
 use Rattle.send.specs.Makers.{concluded, silent, sendsRepeat, sendsAck}
 use Rattle.clock.specs.declared.Looked.{Looked}
 
--- ---- timers
-
--- the timer of the packet that n were sent after: it runs while the packet waits
-abbrev pub packetDue : Link → ℕ → ℕ → Bool
-packetDue l n ms = ltb n (l .waiting) && due (l .settings .transtimeout) (startOf l (sentBefore l n)) ms
-
-abbrev pub acknowledgeDue : Link → ℕ → Bool
-acknowledgeDue l ms = l .acking && due (l .settings .acktimeout) (l .ackstart) ms
+-- ---- a due packet
 
 -- how many packets were sent after the oldest waiting one (0 where none waits)
 abbrev pub afterOldest : Link → ℕ
 afterOldest l = l .waiting - 1
-
--- ---- a due packet
 
 -- "A due packet already repeated TRANS_REPEAT times makes the link lost and nothing is sent." It leaves "lost mark only".
 abbrev pub exhausted : Link → List ℕ → List ℕ → After Outcome
@@ -47,11 +37,13 @@ acknowledgedIf owed l slots frame = concluded (cond owed (sendsAck l frame) (sil
 
 -- "Looking at the clock serves the oldest waiting packet if due, else the newer, else the acknowledge timer (a control ACK, timer stopped),
 -- else sends nothing."
+abbrev pub lookedNewer : Link → List ℕ → List ℕ → ℕ → After Outcome
+lookedNewer l slots frame ms =
+    cond (packetDue l 0 ms) (served l slots frame ms (sentBefore l 0)) (acknowledgedIf (acknowledgeDue l ms) l slots frame)
+
 unfoldable pub lookedOpen : Link → List ℕ → List ℕ → ℕ → After Outcome
 lookedOpen l slots frame ms =
-    cond (packetDue l (afterOldest l) ms) (served l slots frame ms (sentBefore l (afterOldest l)))
-    (cond (packetDue l 0 ms) (served l slots frame ms (sentBefore l 0))
-    (acknowledgedIf (acknowledgeDue l ms) l slots frame))
+    cond (packetDue l (afterOldest l) ms) (served l slots frame ms (sentBefore l (afterOldest l))) (lookedNewer l slots frame ms)
 
 -- look's answer is a type of its own, so that it can tell more than the others' do later, e.g. when the next timer is due (DECISIONS D79)
 abbrev pub looking : After Outcome → After Looked

@@ -7,6 +7,8 @@ use native.Mathlib.Omega.{arith}
 use borrow.Author.Tests.{ne-eqb}
 use lib.ListN.{length, getD, set, length-take, length-drop}
 use Rattle.base.proofs.Put.{put-take}
+use Rattle.frame.specs.declared.Format.{Format}
+use Rattle.frame.specs.declared.Heard.{Heard}
 use Rattle.frame.specs.declared.Heard.the-variants.{Ack, Nak, Data}
 use Rattle.frame.specs.Bytes.{dataFrame, ackFrame, nakFrame}
 use Rattle.frame.specs.Steps.{heard, packetIn}
@@ -28,6 +30,12 @@ use Rattle.send.proofs.Keeps.{again-sound, ackStopped-sound}
 use Rattle.pair.specs.System.{Side, System, sentBy, called, IsClock}
 use Rattle.pair.proofs.Line.{Idle, a-nak, line-data, line-ack, line-idle}
 use Rattle.pair.proofs.Invariant.{Way, Inv, set-timed, turned, restated, inv-turned, window-small}
+
+-- ---- frames of the end here, heard there: both have one format
+
+pub heard-there : (s : Settings) (l : Link) (write : Format → List ℕ) (h : Heard) → l .settings ≡ s → heard (s .format) (write (s .format)) ≡ h
+    → heard (s .format) (write (l .settings .format)) ≡ h
+heard-there s l write h e k = subst (λ (x : Settings). heard (s .format) (write (x .format)) ≡ h) (sym e) k
 
 -- ---- what a call leaves
 
@@ -53,16 +61,17 @@ pub last-said : (s : Settings) (x : Side) (t : List (List ℕ)) (b g : ℕ) → 
 last-said s x t b g w = omega (arith, w .expected)
 
 -- a control ACK, whatever becomes of marks and timers
-pub inv-acked : (s : Settings) (S : System) → InRange s → Inv s S → Inv s (turned S (ackStopped (S .here .state)) (S .here .queue) (ackFrame (lastCorrect (S .here .state)) ∷ []))
+pub inv-acked : (s : Settings) (S : System) → InRange s → Inv s S → Inv s (turned S (ackStopped (S .here .state)) (S .here .queue) (ackFrame (S .here .state .settings .format) (lastCorrect (S .here .state)) ∷ []))
 inv-acked s S r I =
     let l : Link = S .here .state in
     let a : lastCorrect l ≡ (I .gotHere + 3) % 4 = last-said s (S .here) (S .there .taken) (I .freedHere) (I .gotHere) (I .here) in
-    inv-turned s S (l .starts) (l .repeated) (l .ackstart) false (l .nakmark) (l .lost) (ackFrame (lastCorrect l) ∷ []) I (ackStopped-sound l (I .here .sound)) (I .here .timed)
-    (line-ack (s .format) (S .here .taken) (ackFrame (lastCorrect l)) (S .there .queue) (ack-heard (s .format) (lastCorrect l) (omega arith) (omega (arith, r .d-lo)) ∙ ap Ack a) (I .toThere))
+    inv-turned s S (l .starts) (l .repeated) (l .ackstart) false (l .nakmark) (l .lost) (ackFrame (l .settings .format) (lastCorrect l) ∷ []) I (ackStopped-sound l (I .here .sound)) (I .here .timed)
+    (line-ack (s .format) (S .here .taken) (ackFrame (l .settings .format) (lastCorrect l)) (S .there .queue)
+    (heard-there s l (λ f. ackFrame f (lastCorrect l)) _ (I .here .settings) (ack-heard (s .format) (lastCorrect l) (omega arith) (omega (arith, r .d-lo))) ∙ ap Ack a) (I .toThere))
 
 -- the frame by which the packet that j were sent after is repeated
 abbrev pub repeatOf : Side → ℕ → List ℕ
-repeatOf x j = dataFrame (sentBefore (x .state) j) (lastCorrect (x .state)) (packetOf (x .state) (x .slots) (sentBefore (x .state) j))
+repeatOf x j = dataFrame (x .state .settings .format) (sentBefore (x .state) j) (lastCorrect (x .state)) (packetOf (x .state) (x .slots) (sentBefore (x .state) j))
 
 -- that packet lies in the slots, and is as long as the state says
 pub waiting-length : (s : Settings) (x : Side) (t : List (List ℕ)) (b g j : ℕ) → Way s x t b g → j < x .state .waiting
@@ -83,7 +92,7 @@ repeat-size s x t b g j r w h =
     let l : Link = x .state in
     let k : ℕ = sentBefore l j in
     let packet : List ℕ = packetOf l (x .slots) k in
-    let size : length (repeatOf x j) ≡ length packet + 5 = frameOf-length (k * 4 + lastCorrect l) packet in
+    let size : length (repeatOf x j) ≡ length packet + 5 = frameOf-length (l .settings .format) (k * 4 + lastCorrect l) packet in
     let formed : Formed l = wellFormed-facts l (w .sound .formed) in
     let len : length packet ≡ lengthOf l k = waiting-length s x t b g j w h in
     let d : l .settings .format .d ≡ s .format .d = ap (λ (y : Settings). y .format .d) (w .settings) in
@@ -100,7 +109,8 @@ repeat-heard s x t b g j r w h =
     let formed : Formed l = wellFormed-facts l (w .sound .formed) in
     let len : length packet ≡ lengthOf l k = waiting-length s x t b g j w h in
     let d : l .settings .format .d ≡ s .format .d = ap (λ (y : Settings). y .format .d) (w .settings) in
-    data-heard (s .format) k (lastCorrect l) packet (omega arith) (omega arith) (omega (arith, len, formed .lengths j h .least)) (omega (arith, len, formed .lengths j h .most, r .d-lo))
+    heard-there s l (λ f. dataFrame f k (lastCorrect l) packet) _ (w .settings)
+    (data-heard (s .format) k (lastCorrect l) packet (omega arith) (omega arith) (omega (arith, len, formed .lengths j h .least)) (omega (arith, len, formed .lengths j h .most, r .d-lo)))
 
 -- a packet that waits, repeated: the one that j were sent after
 pub inv-repeated : (s : Settings) (S : System) (j ms : ℕ) → IsClock ms → InRange s → Inv s S → j < S .here .state .waiting → mayRepeat (S .here .state) (sentBefore (S .here .state) j) ≡ true
@@ -116,29 +126,30 @@ inv-repeated s S j ms c r I h may =
     let len : length packet ≡ lengthOf l k = waiting-length s (S .here) (S .there .taken) (I .freedHere) (I .gotHere) j w h in
     let a : lastCorrect l ≡ (I .gotHere + 3) % 4 = last-said s (S .here) (S .there .taken) (I .freedHere) (I .gotHere) w in
     let lo : 1 ≤ length packet = omega (arith, len, wellFormed-facts l (w .sound .formed) .lengths j h .least) in
-    let heard-as : heard (s .format) (dataFrame k (lastCorrect l) packet) ≡ Data (f % 4) false ((I .gotHere + 3) % 4) (length packet) =
+    let heard-as : heard (s .format) (dataFrame (l .settings .format) k (lastCorrect l) packet) ≡ Data (f % 4) false ((I .gotHere + 3) % 4) (length packet) =
     repeat-heard s (S .here) (S .there .taken) (I .freedHere) (I .gotHere) j r w h ∙ rw (number, a) in
-    let bytes : packetIn (dataFrame k (lastCorrect l) packet) (length packet) ≡ getD (S .here .taken) f [] =
-    packet-heard k (lastCorrect l) packet ∙ subst (λ x. packetOf l (S .here .slots) x ≡ getD (S .here .taken) f []) number (w .holds f (omega (arith, w .window)) (omega (arith, w .window))) in
-    inv-turned s S (set (l .starts) (slotOf l k) ms) (set (l .repeated) (slotOf l k) (repeatedOf l k + 1)) (l .ackstart) false (l .nakmark) (l .lost) (dataFrame k (lastCorrect l) packet ∷ []) I (again-sound l k ms (w .sound) may)
+    let bytes : packetIn (dataFrame (l .settings .format) k (lastCorrect l) packet) (length packet) ≡ getD (S .here .taken) f [] =
+    packet-heard (l .settings .format) k (lastCorrect l) packet ∙ subst (λ x. packetOf l (S .here .slots) x ≡ getD (S .here .taken) f []) number (w .holds f (omega (arith, w .window)) (omega (arith, w .window))) in
+    inv-turned s S (set (l .starts) (slotOf l k) ms) (set (l .repeated) (slotOf l k) (repeatedOf l k + 1)) (l .ackstart) false (l .nakmark) (l .lost) (dataFrame (l .settings .format) k (lastCorrect l) packet ∷ []) I (again-sound l k ms (w .sound) may)
     (set-timed (l .starts) (slotOf l k) ms (w .timed .0) c, w .timed .1)
-    (line-data (s .format) (S .here .taken) f (length packet) (dataFrame k (lastCorrect l) packet) (S .there .queue) heard-as bytes lo (omega (arith, w .window)) (omega (arith, w .window)) (I .toThere))
+    (line-data (s .format) (S .here .taken) f (length packet) (dataFrame (l .settings .format) k (lastCorrect l) packet) (S .there .queue) heard-as bytes lo (omega (arith, w .window)) (omega (arith, w .window)) (I .toThere))
 
 -- a control NAK
 pub inv-nakked : (s : Settings) (S : System) → InRange s → Inv s S
-    → Inv s (turned S (marked (S .here .state)) (S .here .queue) (nakFrame ((lastCorrect (S .here .state) + 1) % 4) ∷ []))
+    → Inv s (turned S (marked (S .here .state)) (S .here .queue) (nakFrame (S .here .state .settings .format) ((lastCorrect (S .here .state) + 1) % 4) ∷ []))
 inv-nakked s S r I =
     let l : Link = S .here .state in
     let k : ℕ = (lastCorrect l + 1) % 4 in
-    let heard-as : heard (s .format) (nakFrame k) ≡ Nak k = nak-heard (s .format) k (omega arith) (omega (arith, r .d-lo)) in
-    inv-turned s S (l .starts) (l .repeated) (l .ackstart) (l .acking) true (l .lost) (nakFrame k ∷ []) I (marked-sound l (l .ackstart) (l .acking) true (l .lost) (I .here .sound)) (I .here .timed)
-    (line-idle (s .format) (S .here .taken) (nakFrame k) (S .there .queue) (subst Idle (sym heard-as) (a-nak k)) (I .toThere))
+    let heard-as : heard (s .format) (nakFrame (l .settings .format) k) ≡ Nak k =
+    heard-there s l (λ f. nakFrame f k) _ (I .here .settings) (nak-heard (s .format) k (omega arith) (omega (arith, r .d-lo))) in
+    inv-turned s S (l .starts) (l .repeated) (l .ackstart) (l .acking) true (l .lost) (nakFrame (l .settings .format) k ∷ []) I (marked-sound l (l .ackstart) (l .acking) true (l .lost) (I .here .sound)) (I .here .timed)
+    (line-idle (s .format) (S .here .taken) (nakFrame (l .settings .format) k) (S .there .queue) (subst Idle (sym heard-as) (a-nak k)) (I .toThere))
 
 -- ---- how each maker ends a call
 
-pub ends-silent : (s : Settings) (S : System) (l : Link) (frame : List ℕ) (q : List (List ℕ)) (answer : ℕ)
+pub concluded-silent : (s : Settings) (S : System) (l : Link) (frame : List ℕ) (q : List (List ℕ)) (answer : ℕ)
     → Inv s (turned S l q []) → Inv s (called S (concluded (silent l frame) answer 0 (S .here .slots)) q [] [])
-ends-silent s S l frame q answer I = subst (Inv s) (sym (called-turned S (concluded (silent l frame) answer 0 (S .here .slots)) q [] refl refl)) I
+concluded-silent s S l frame q answer I = subst (Inv s) (sym (called-turned S (concluded (silent l frame) answer 0 (S .here .slots)) q [] refl refl)) I
 
 pub concluded-sent : (s : Settings) (S : System) (l : Link) (bytes frame : List ℕ) (q : List (List ℕ)) (answer : ℕ) → 1 ≤ length bytes → length bytes ≤ length frame
     → Inv s (turned S l q (bytes ∷ [])) → Inv s (called S (concluded (sends l bytes frame) answer 0 (S .here .slots)) q [] [])
@@ -152,11 +163,11 @@ Before s S q = Inv s (restated S (S .here .state) q)
 pub concluded-ack : (s : Settings) (S : System) (frame : List ℕ) (q : List (List ℕ)) (answer : ℕ) → InRange s → 5 ≤ length frame → Before s S q
     → Inv s (called S (concluded (sendsAck (S .here .state) frame) answer 0 (S .here .slots)) q [] [])
 concluded-ack s S frame q answer r h I =
-    concluded-sent s S (ackStopped (S .here .state)) (ackFrame (lastCorrect (S .here .state))) frame q answer (omega (arith, frameOf-length (0x80 + lastCorrect (S .here .state)) [])) (omega (arith, frameOf-length (0x80 + lastCorrect (S .here .state)) []))
+    concluded-sent s S (ackStopped (S .here .state)) (ackFrame (S .here .state .settings .format) (lastCorrect (S .here .state))) frame q answer (omega (arith, frameOf-length (S .here .state .settings .format) (0x80 + lastCorrect (S .here .state)) [])) (omega (arith, frameOf-length (S .here .state .settings .format) (0x80 + lastCorrect (S .here .state)) []))
     (inv-acked s (restated S (S .here .state) q) r I)
 
-pub ends-nothing : (s : Settings) (S : System) (frame : List ℕ) (q : List (List ℕ)) (answer : ℕ) → Before s S q → Inv s (called S (concluded (silent (S .here .state) frame) answer 0 (S .here .slots)) q [] [])
-ends-nothing s S frame q answer I = ends-silent s S (S .here .state) frame q answer (inv-same s (restated S (S .here .state) q) I)
+pub concluded-nothing : (s : Settings) (S : System) (frame : List ℕ) (q : List (List ℕ)) (answer : ℕ) → Before s S q → Inv s (called S (concluded (silent (S .here .state) frame) answer 0 (S .here .slots)) q [] [])
+concluded-nothing s S frame q answer I = concluded-silent s S (S .here .state) frame q answer (inv-same s (restated S (S .here .state) q) I)
 
 pub concluded-nak : (s : Settings) (S : System) (frame : List ℕ) (q : List (List ℕ)) (answer : ℕ) → InRange s → 5 ≤ length frame → Before s S q
     → Inv s (called S (concluded (sendsNak (S .here .state) frame) answer 0 (S .here .slots)) q [] [])
@@ -165,9 +176,9 @@ concluded-nak s S frame q answer r h I = go (S .here .state .nakmark)
     k : ℕ
     k = (lastCorrect (S .here .state) + 1) % 4
 
-    go : (t : Bool) → Inv s (called S (concluded (cond t (silent (S .here .state) frame) (sends (marked (S .here .state)) (nakFrame k) frame)) answer 0 (S .here .slots)) q [] [])
-    go true = ends-nothing s S frame q answer I
-    go false = concluded-sent s S (marked (S .here .state)) (nakFrame k) frame q answer (omega (arith, frameOf-length (0xA0 + k) [])) (omega (arith, frameOf-length (0xA0 + k) [])) (inv-nakked s (restated S (S .here .state) q) r I)
+    go : (t : Bool) → Inv s (called S (concluded (cond t (silent (S .here .state) frame) (sends (marked (S .here .state)) (nakFrame (S .here .state .settings .format) k) frame)) answer 0 (S .here .slots)) q [] [])
+    go true = concluded-nothing s S frame q answer I
+    go false = concluded-sent s S (marked (S .here .state)) (nakFrame (S .here .state .settings .format) k) frame q answer (omega (arith, frameOf-length (S .here .state .settings .format) (0xA0 + k) [])) (omega (arith, frameOf-length (S .here .state .settings .format) (0xA0 + k) [])) (inv-nakked s (restated S (S .here .state) q) r I)
 
 pub concluded-repeat : (s : Settings) (S : System) (j ms : ℕ) (frame : List ℕ) (q : List (List ℕ)) (answer : ℕ) → IsClock ms → InRange s → s .format .d ≤ length frame → Before s S q
     → j < S .here .state .waiting → mayRepeat (S .here .state) (sentBefore (S .here .state) j) ≡ true

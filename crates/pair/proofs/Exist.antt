@@ -8,10 +8,11 @@ use borrow.Author.Tests.{eqb-true, eqb-false}
 use lib.ListN.{length}
 use lib.Dec.{eqb}
 use Rattle.base.specs.Answer.{done, linkLost, unexpected, shortBuffer}
+use Rattle.frame.specs.declared.Format.{Format}
 use Rattle.frame.specs.declared.Heard.{Heard}
 use Rattle.frame.specs.declared.Heard.the-variants.{Size, Sum, Code, ControlSize, Length, Reset, Ack, Nak, Data}
 use Rattle.frame.specs.Bytes.{ackFrame, nakFrame}
-use Rattle.frame.specs.Steps.{heard, acknowledgedIn}
+use Rattle.frame.specs.Steps.{heard, acknowledgedIn, refusalOf}
 use Rattle.frame.proofs.Writing.{frameOf-length}
 use Rattle.frame.proofs.Hearing.{ack-heard, nak-heard, number-heard}
 use Rattle.state.specs.declared.Settings.{Settings}
@@ -34,7 +35,7 @@ use Rattle.pair.specs.Round.{Enough, dueAt, Carried, head, Carries, none
 use Rattle.pair.specs.Demand3.{RoundsExist, CarryingEnds}
 use Rattle.pair.proofs.Line.{Line, data-next, ack-next, idle-next, Idle, by-size, by-sum, a-nak}
 use Rattle.pair.proofs.Invariant.{Inv, inv-swap}
-use Rattle.pair.proofs.Calls.{sent-frame, repeatOf, repeat-size, repeat-heard}
+use Rattle.pair.proofs.Calls.{heard-there, sent-frame, repeatOf, repeat-size, repeat-heard}
 use Rattle.pair.proofs.Moves.{moment-range, moment-kept}
 use Rattle.pair.proofs.Measure.{bit, weight, CalmLook}
 use Rattle.pair.proofs.Timers.{Moved, moved}
@@ -64,40 +65,40 @@ cost-range ControlSize = omega arith
 cost-range Length = omega arith
 cost-range Reset = omega arith
 
-abbrev pub load : ℕ → List (List ℕ) → ℕ
-load d [] = 0
-load d (x ∷ q) = cost (heard d x) + load d q
+abbrev pub load : Format → List (List ℕ) → ℕ
+load format [] = 0
+load format (x ∷ q) = cost (heard format x) + load format q
 
-pub load-append : (d : ℕ) (p q : List (List ℕ)) → load d (p ++ q) ≡ load d p + load d q
-load-append d [] q = omega arith
-load-append d (x ∷ p) q = omega (arith, load-append d p q)
+pub load-append : (format : Format) (p q : List (List ℕ)) → load format (p ++ q) ≡ load format p + load format q
+load-append format [] q = omega arith
+load-append format (x ∷ p) q = omega (arith, load-append format p q)
 
-pub load-most : (d : ℕ) (q : List (List ℕ)) → load d q ≤ 4 * length q
-load-most d [] = omega arith
-load-most d (x ∷ q) = omega (arith, cost-range (heard d x) .1, load-most d q)
+pub load-most : (format : Format) (q : List (List ℕ)) → load format q ≤ 4 * length q
+load-most format [] = omega arith
+load-most format (x ∷ q) = omega (arith, cost-range (heard format x) .1, load-most format q)
 
 -- of both queues
-abbrev pub loads : ℕ → System → ℕ
-loads d S = load d (S .here .queue) + load d (S .there .queue)
+abbrev pub loads : Format → System → ℕ
+loads format S = load format (S .here .queue) + load format (S .there .queue)
 
 -- a take that used its frame up, and answered with less
-pub record Used (d : ℕ) (h : Heard) (a : After Outcome) : Type 0 where
-  pub less : load d (sentBy a) + 1 ≤ cost h
+pub record Used (format : Format) (h : Heard) (a : After Outcome) : Type 0 where
+  pub less : load format (sentBy a) + 1 ≤ cost h
   pub gone : eqb (a .told .answer) shortBuffer ≡ false
 
-pub used-nothing : (d : ℕ) (h : Heard) (l : Link) (slots frame : List ℕ) (answer delivered : ℕ) → eqb answer shortBuffer ≡ false → Used d h (concluded (silent l frame) answer delivered slots)
-used-nothing d h l slots frame answer delivered e = record { less = omega (arith, cost-range h .0); gone = e }
+pub used-nothing : (format : Format) (h : Heard) (l : Link) (slots frame : List ℕ) (answer delivered : ℕ) → eqb answer shortBuffer ≡ false → Used format h (concluded (silent l frame) answer delivered slots)
+used-nothing format h l slots frame answer delivered e = record { less = omega (arith, cost-range h .0); gone = e }
 
-pub used-sent : (d : ℕ) (h reply : Heard) (l : Link) (bytes slots frame : List ℕ) (answer delivered : ℕ) → eqb answer shortBuffer ≡ false → 1 ≤ length bytes → length bytes ≤ length frame
-    → heard d bytes ≡ reply → cost reply + 1 ≤ cost h → Used d h (concluded (sends l bytes frame) answer delivered slots)
-used-sent d h reply l bytes slots frame answer delivered e lo hi m c =
+pub used-sent : (format : Format) (h reply : Heard) (l : Link) (bytes slots frame : List ℕ) (answer delivered : ℕ) → eqb answer shortBuffer ≡ false → 1 ≤ length bytes → length bytes ≤ length frame
+    → heard format bytes ≡ reply → cost reply + 1 ≤ cost h → Used format h (concluded (sends l bytes frame) answer delivered slots)
+used-sent format h reply l bytes slots frame answer delivered e lo hi m c =
     record { less = rw (sent-frame l bytes frame slots answer delivered lo hi, m) (omega arith); gone = e }
 
 -- ---- each kind of frame
 
-pub used-nak : (s : Settings) (h : Heard) (l : Link) (slots frame : List ℕ) (answer : ℕ) → InRange s → s .format .d ≤ length frame → cost h ≡ 4 → eqb answer shortBuffer ≡ false
-    → Used (s .format) h (concluded (sendsNak l frame) answer 0 slots)
-used-nak s h l slots frame answer r room four e = go (l .nakmark)
+pub used-nak : (s : Settings) (h : Heard) (l : Link) (slots frame : List ℕ) (answer : ℕ) → InRange s → s .format .d ≤ length frame → l .settings ≡ s → cost h ≡ 4
+    → eqb answer shortBuffer ≡ false → Used (s .format) h (concluded (sendsNak l frame) answer 0 slots)
+used-nak s h l slots frame answer r room same four e = go (l .nakmark)
   where
     k : ℕ
     k = (lastCorrect l + 1) % 4
@@ -105,18 +106,19 @@ used-nak s h l slots frame answer r room four e = go (l .nakmark)
     small : k ≤ 3
     small = omega arith
 
-    size : length (nakFrame k) ≡ 5
-    size = frameOf-length (0xA0 + k) []
+    size : length (nakFrame (l .settings .format) k) ≡ 5
+    size = frameOf-length (l .settings .format) (0xA0 + k) []
 
-    go : (t : Bool) → Used (s .format) h (concluded (cond t (silent l frame) (sends (marked l) (nakFrame k) frame)) answer 0 slots)
+    go : (t : Bool) → Used (s .format) h (concluded (cond t (silent l frame) (sends (marked l) (nakFrame (l .settings .format) k) frame)) answer 0 slots)
     go true = used-nothing (s .format) h l slots frame answer 0 e
-    go false = used-sent (s .format) h (Nak k) (marked l) (nakFrame k) slots frame answer 0 e (omega (arith, size)) (omega (arith, size, r .d-lo)) (nak-heard (s .format) k (omega (arith, small)) (omega (arith, r .d-lo))) (omega (arith, four))
+    go false = used-sent (s .format) h (Nak k) (marked l) (nakFrame (l .settings .format) k) slots frame answer 0 e (omega (arith, size)) (omega (arith, size, r .d-lo))
+        (heard-there s l (λ f. nakFrame f k) _ same (nak-heard (s .format) k (omega (arith, small)) (omega (arith, r .d-lo)))) (omega (arith, four))
 
 pub used-idle : (s : Settings) (S : System) (frame : List ℕ) (ms : ℕ) (h : Heard) → InRange s → Inv s S → s .format .d ≤ length frame → acknowledgedIn h ≤ 3 → Idle h
     → Used (s .format) h (obeyed (S .here .state) (S .here .slots) frame ms h)
 unfolding obeyed
-used-idle s S frame ms Size r I room small by-size = used-nak s Size (S .here .state) (S .here .slots) frame 6 r room refl refl
-used-idle s S frame ms Sum r I room small by-sum = used-nak s Sum (S .here .state) (S .here .slots) frame 6 r room refl refl
+used-idle s S frame ms Size r I room small by-size = used-nak s Size (S .here .state) (S .here .slots) frame (refusalOf Size) r room (I .here .settings) refl refl
+used-idle s S frame ms Sum r I room small by-sum = used-nak s Sum (S .here .state) (S .here .slots) frame (refusalOf Sum) r room (I .here .settings) refl refl
 used-idle s S frame ms (Nak k) r I room small (a-nak k₁) = go (repeatable l k) refl
   where
     l : Link
@@ -136,19 +138,19 @@ used-idle s S frame ms (Nak k) r I room small (a-nak k₁) = go (repeatable l k)
         (wellFormed-facts l (I .here .sound .formed) .next) small e (λ j wait may. repeated j wait)
     go false e = used-nothing (s .format) (Nak k) l (S .here .slots) frame done 0 refl
 
-pub used-data : (s : Settings) (l : Link) (slots frame : List ℕ) (ms number k len : ℕ) → InRange s → s .format .d ≤ length frame
+pub used-data : (s : Settings) (l : Link) (slots frame : List ℕ) (ms number k len : ℕ) → InRange s → s .format .d ≤ length frame → l .settings ≡ s
     → Used (s .format) (Data number false k len) (obeyed l slots frame ms (Data number false k len))
-used-data s l slots frame ms number k len r room =
+used-data s l slots frame ms number k len r room same =
     data-taken (λ a. Used (s .format) (Data number false k len) a) l slots frame ms number k len
     (λ e. used-nothing (s .format) (Data number false k len) (afterDelivery six ms) slots frame done len refl)
-    (λ n. used-sent (s .format) (Data number false k len) (Ack (lastCorrect six)) (ackStopped six) (ackFrame (lastCorrect six)) slots frame unexpected 0 refl (omega (arith, size)) (omega (arith, size, r .d-lo))
-    (ack-heard (s .format) (lastCorrect six) (omega arith) (omega (arith, r .d-lo))) (omega arith))
+    (λ n. used-sent (s .format) (Data number false k len) (Ack (lastCorrect six)) (ackStopped six) (ackFrame (six .settings .format) (lastCorrect six)) slots frame unexpected 0 refl (omega (arith, size)) (omega (arith, size, r .d-lo))
+    (heard-there s six (λ f. ackFrame f (lastCorrect six)) _ same (ack-heard (s .format) (lastCorrect six) (omega arith) (omega (arith, r .d-lo)))) (omega arith))
   where
     six : Link
     six = freed l k
 
-    size : length (ackFrame (lastCorrect six)) ≡ 5
-    size = frameOf-length (0x80 + lastCorrect six) []
+    size : length (ackFrame (six .settings .format) (lastCorrect six)) ≡ 5
+    size = frameOf-length (six .settings .format) (0x80 + lastCorrect six) []
 
 pub used-ack : (s : Settings) (l : Link) (slots frame : List ℕ) (ms k : ℕ) → Used (s .format) (Ack k) (obeyed l slots frame ms (Ack k))
 unfolding obeyed
@@ -157,7 +159,7 @@ used-ack s l slots frame ms k = used-nothing (s .format) (Ack k) (freed l k) slo
 pub used-head : (s : Settings) (S : System) (frame received : List ℕ) (rest : List (List ℕ)) (ms : ℕ) (t : List (List ℕ)) (h b e : ℕ) → InRange s → Inv s S → s .format .d ≤ length frame
     → Line (s .format) t h b e (received ∷ rest) → Used (s .format) (heard (s .format) received) (obeyed (S .here .state) (S .here .slots) frame ms (heard (s .format) received))
 used-head s S frame received rest ms t h b e r I room (data-next f x len m p lo u v w) =
-    subst (λ y. Used (s .format) y (obeyed (S .here .state) (S .here .slots) frame ms y)) (sym m) (used-data s (S .here .state) (S .here .slots) frame ms (f % 4) ((x + 3) % 4) len r room)
+    subst (λ y. Used (s .format) y (obeyed (S .here .state) (S .here .slots) frame ms y)) (sym m) (used-data s (S .here .state) (S .here .slots) frame ms (f % 4) ((x + 3) % 4) len r room (I .here .settings))
 used-head s S frame received rest ms t h b e r I room (ack-next x m v w) =
     subst (λ y. Used (s .format) y (obeyed (S .here .state) (S .here .slots) frame ms y)) (sym m) (used-ack s (S .here .state) (S .here .slots) frame ms ((x + 3) % 4))
 used-head s S frame received rest ms t h b e r I room (idle-next m w) = used-idle s S frame ms (heard (s .format) received) r I room (number-heard (s .format) received) m
@@ -171,8 +173,8 @@ used-take s S frame received rest ms r I enough e =
     l : Link
     l = S .here .state
 
-    d : l .settings .format .d ≡ s .format .d
-    d = ap (λ (x : Settings). x .format .d) (I .here .settings)
+    same : l .settings .format ≡ s .format
+    same = ap (λ (x : Settings). x .format) (I .here .settings)
 
     slots-room : slotsNeed (l .settings) ≤ length (S .here .slots)
     slots-room = rw (I .here .settings) (I .here .room)
@@ -181,11 +183,11 @@ used-take s S frame received rest ms r I enough e =
     gate = sound-gate l (length (S .here .slots)) (length frame) (I .here .sound) slots-room enough
 
     room : s .format .d ≤ length frame
-    room = subst (λ n. n ≤ length frame) d enough
+    room = subst (λ (f : Format). f .d ≤ length frame) same enough
 
     go : (t : Bool) → Used (s .format) (heard (s .format) received) (gated (cond t linkLost done) l (S .here .slots) frame (obeyed l (S .here .slots) frame ms (heard (l .settings .format) received)))
     go true = used-nothing (s .format) (heard (s .format) received) l (S .here .slots) frame linkLost 0 refl
-    go false = subst (λ n. Used (s .format) (heard (s .format) received) (obeyed l (S .here .slots) frame ms (heard n received))) (sym d)
+    go false = subst (λ f. Used (s .format) (heard (s .format) received) (obeyed l (S .here .slots) frame ms (heard f received))) (sym same)
         (used-head s S frame received rest ms (S .there .taken) (I .gotHere) (I .freedHere) (I .gotThere) r I room (subst (λ z. Line (s .format) (S .there .taken) (I .gotHere) (I .freedHere) (I .gotThere) z) e (I .toHere)))
 
 -- ---- carrying ends

@@ -14,7 +14,7 @@ use Rattle.base.proofs.Tests.{and-right, or-left-false, or-right-false}
 use Rattle.frame.specs.declared.Heard.{Heard}
 use Rattle.frame.specs.declared.Heard.the-variants.{Size, Sum, Ack, Nak, Data}
 use Rattle.frame.specs.Bytes.{nakFrame}
-use Rattle.frame.specs.Steps.{heard, acknowledgedIn}
+use Rattle.frame.specs.Steps.{heard, acknowledgedIn, refusalOf}
 use Rattle.frame.proofs.Hearing.{number-heard}
 use Rattle.state.specs.declared.Settings.{Settings}
 use Rattle.state.specs.declared.Link.{Link}
@@ -48,14 +48,14 @@ calm-same : (l : Link) (slots frame : List ℕ) (answer : ℕ) → Calm l (refus
 calm-same l slots frame answer = record { low = omega arith; few = omega arith; sticks = λ h. h }
 
 calm-nak : (l : Link) (slots frame : List ℕ) (answer : ℕ) (t : Bool)
-    → Calm l (concluded (cond t (silent l frame) (sends (marked l) (nakFrame ((lastCorrect l + 1) % 4)) frame)) answer 0 slots) 0
+    → Calm l (concluded (cond t (silent l frame) (sends (marked l) (nakFrame (l .settings .format) ((lastCorrect l + 1) % 4)) frame)) answer 0 slots) 0
 calm-nak l slots frame answer true = record { low = omega arith; few = omega arith; sticks = λ h. h }
 calm-nak l slots frame answer false = record { low = omega arith; few = omega arith; sticks = λ h. h }
 
 calm-idle : (l : Link) (slots frame : List ℕ) (ms : ℕ) (h : Heard) → Sound l → acknowledgedIn h ≤ 3 → Idle h → Calm l (obeyed l slots frame ms h) 0
 unfolding obeyed
-calm-idle l slots frame ms Size s small by-size = calm-nak l slots frame 6 (l .nakmark)
-calm-idle l slots frame ms Sum s small by-sum = calm-nak l slots frame 6 (l .nakmark)
+calm-idle l slots frame ms Size s small by-size = calm-nak l slots frame (refusalOf Size) (l .nakmark)
+calm-idle l slots frame ms Sum s small by-sum = calm-nak l slots frame (refusalOf Sum) (l .nakmark)
 calm-idle l slots frame ms (Nak k) s small (a-nak k₁) = go (repeatable l k) refl
   where
     go : (t : Bool) → repeatable l k ≡ t → Calm l (concluded (cond t (sendsRepeat l slots frame ms k) (silent l frame)) done 0 slots) 0

@@ -11,20 +11,21 @@ use lib.Dec.{eqb, ltb}
 use Rattle.base.specs.Answer.{done}
 use Rattle.base.proofs.Put.{set-cases}
 use Rattle.base.proofs.Tests.{and-left}
+use Rattle.frame.specs.declared.Format.{Format}
 use Rattle.frame.specs.Bytes.{frameOf, dataFrame}
 use Rattle.frame.proofs.Writing.{frameOf-length}
 use Rattle.state.specs.declared.Link.{Link}
 use Rattle.state.specs.declared.Outcome.{Outcome}
 use Rattle.state.specs.State.{lastCorrect, sentBefore, slotOf, repeatedOf, startOf}
 use Rattle.state.specs.Gate.{After, refused}
-use Rattle.state.specs.Timer.{due}
+use Rattle.state.specs.Timer.{due, packetDue, acknowledgeDue}
 use Rattle.state.specs.Formed.{Formed, Sound}
 use Rattle.state.proofs.Facts.{wellFormed-facts, slotOf-small}
 use Rattle.send.specs.Repeat.{packetOf, again, mayRepeat}
 use Rattle.send.specs.Makers.{concluded, sendsRepeat}
 use Rattle.receive.specs.Steps.{freed}
 use Rattle.receive.proofs.Facts.{freed-fewer}
-use Rattle.clock.specs.Look.{packetDue, acknowledgeDue, afterOldest, exhausted, served, acknowledgedIf, lookedOpen}
+use Rattle.clock.specs.Look.{afterOldest, exhausted, served, acknowledgedIf, lookedOpen}
 use Rattle.clock.proofs.Facts.{due-waits}
 use Rattle.pair.specs.Round.{dueAt}
 
@@ -121,11 +122,11 @@ looked-same l slots frame answer owed n = record { low = omega arith; few = omeg
 sent-some : (bytes : List ℕ) → 1 ≤ length bytes → eqb (length bytes) 0 ≡ false
 sent-some bytes h = ne-eqb (length bytes) 0 (λ q. omega arith)
 
-data-some : (number acknowledged : ℕ) (packet : List ℕ) → eqb (length (dataFrame number acknowledged packet)) 0 ≡ false
-data-some number acknowledged packet = sent-some (dataFrame number acknowledged packet) (omega (arith, frameOf-length (number * 4 + acknowledged) packet))
+data-some : (format : Format) (number acknowledged : ℕ) (packet : List ℕ) → eqb (length (dataFrame format number acknowledged packet)) 0 ≡ false
+data-some format number acknowledged packet = sent-some (dataFrame format number acknowledged packet) (omega (arith, frameOf-length format (number * 4 + acknowledged) packet))
 
-control-some : (fctr : ℕ) → eqb (length (frameOf fctr [])) 0 ≡ false
-control-some fctr = sent-some (frameOf fctr []) (omega (arith, frameOf-length fctr []))
+control-some : (format : Format) (fctr : ℕ) → eqb (length (frameOf format fctr [])) 0 ≡ false
+control-some format fctr = sent-some (frameOf format fctr []) (omega (arith, frameOf-length format fctr []))
 
 served-look : (l : Link) (slots frame : List ℕ) (ms j : ℕ) (owed : Bool) → Sound l → l .lost ≡ false → j < l .waiting → CalmLook l (served l slots frame ms (sentBefore l j)) owed
 served-look l slots frame ms j owed s alive h = go (mayRepeat l (sentBefore l j)) refl
@@ -135,20 +136,20 @@ served-look l slots frame ms j owed s alive h = go (mayRepeat l (sentBefore l j)
 
     go : (t : Bool) → mayRepeat l k ≡ t → CalmLook l (cond t (concluded (sendsRepeat l slots frame ms k) done 0 slots) (exhausted l slots frame)) owed
     go true e = record {
-      low = rw (data-some k (lastCorrect l) (packetOf l slots k)) (again-weight l ms j s h e);
+      low = rw (data-some (l .settings .format) k (lastCorrect l) (packetOf l slots k)) (again-weight l ms j s h e);
       few = omega arith;
       sticks = λ q. q;
-      served = λ o q. data-some k (lastCorrect l) (packetOf l slots k);
+      served = λ o q. data-some (l .settings .format) k (lastCorrect l) (packetOf l slots k);
       mute = refl;
     }
     go false e = record { low = omega arith; few = omega arith; sticks = λ q. refl; served = λ o q. absurd (true≢false q); mute = refl }
 
 acknowledged-look : (l : Link) (slots frame : List ℕ) (owed : Bool) → (owed ≡ true → l .acking ≡ true) → CalmLook l (acknowledgedIf owed l slots frame) owed
 acknowledged-look l slots frame true f = record {
-  low = rw (control-some (0x80 + lastCorrect l)) (omega (arith, ap bit (f refl)));
+  low = rw (control-some (l .settings .format) (0x80 + lastCorrect l)) (omega (arith, ap bit (f refl)));
   few = omega arith;
   sticks = λ q. q;
-  served = λ o q. control-some (0x80 + lastCorrect l);
+  served = λ o q. control-some (l .settings .format) (0x80 + lastCorrect l);
   mute = refl;
 }
 acknowledged-look l slots frame false f = record { low = omega arith; few = omega arith; sticks = λ q. q; served = λ o. absurd (true≢false (sym o)); mute = refl }

@@ -10,9 +10,8 @@ use lib.Dec.{ltb}
 use Rattle.base.proofs.Tests.{and-left, or-first, or-second}
 use Rattle.state.specs.declared.Settings.{Settings}
 use Rattle.state.specs.declared.Link.{Link}
-use Rattle.state.specs.Timer.{due, onward}
+use Rattle.state.specs.Timer.{due, onward, packetDue, acknowledgeDue}
 use Rattle.state.specs.Formed.{InRange}
-use Rattle.clock.specs.Look.{packetDue, acknowledgeDue}
 use Rattle.clock.proofs.Facts.{due-waits}
 use Rattle.pair.specs.System.{System, swap, IsClock}
 use Rattle.pair.specs.Round.{runs, dueAt, someRuns, someDue, Passes, stays, moves, Round, round, other-first, Rounds, begin, next}

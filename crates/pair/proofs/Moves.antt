@@ -10,9 +10,10 @@ use lib.Dec.{eqb}
 use Rattle.base.specs.Answer.{done, shortBuffer, linkLost, unexpected}
 use Rattle.base.specs.Buffer.{put}
 use Rattle.base.proofs.Put.{put-length}
+use Rattle.frame.specs.declared.Format.{Format}
 use Rattle.frame.specs.declared.Heard.{Heard}
 use Rattle.frame.specs.declared.Heard.the-variants.{Size, Sum, Ack, Nak, Data}
-use Rattle.frame.specs.Steps.{heard, packetIn, acknowledgedIn}
+use Rattle.frame.specs.Steps.{heard, packetIn, acknowledgedIn, refusalOf}
 use Rattle.frame.specs.Bytes.{dataFrame}
 use Rattle.frame.proofs.Writing.{frameOf-length}
 use Rattle.frame.proofs.Hearing.{number-heard, data-heard, packet-heard}
@@ -25,6 +26,7 @@ use Rattle.state.specs.Gate.{After, refused, gated, gateOf}
 use Rattle.state.specs.Formed.{InRange, Formed, Open}
 use Rattle.state.proofs.Facts.{inRange-facts, wellFormed-facts, gateOf-facts, gated-cases}
 use Rattle.state.proofs.Keeps.{marked-sound}
+use Rattle.state.specs.Timer.{packetDue, acknowledgeDue}
 use Rattle.send.specs.Repeat.{partOf, mayRepeat}
 use Rattle.send.specs.Submit.{submitGate, sentFirst, packetAccepted, submitted}
 use Rattle.send.specs.Makers.{silent, concluded, sendsAck, sendsRepeat}
@@ -33,13 +35,13 @@ use Rattle.send.proofs.Keeps.{sentFirst-sound}
 use Rattle.receive.specs.Steps.{freed, repeatable, afterDelivery}
 use Rattle.receive.specs.Take.{obeyed, frameTaken}
 use Rattle.receive.proofs.Facts.{repeatable-holds, data-taken}
-use Rattle.clock.specs.Look.{packetDue, acknowledgeDue, afterOldest, exhausted, served, acknowledgedIf, lookedOpen, looked, acknowledgedNow}
+use Rattle.clock.specs.Look.{afterOldest, exhausted, served, acknowledgedIf, lookedOpen, looked, acknowledgedNow}
 use Rattle.clock.proofs.Facts.{due-waits}
 use Rattle.pair.specs.System.{System, swap, sentBy, takenBy, deliveredBy, leftBy, called, submits, takes, looks, acknowledges, Harm, IsClock, Move, submit, take-head, look, acknowledge, harm, Moment, start, here, there}
 use Rattle.pair.specs.Demand3.{FirstSoMany}
 use Rattle.pair.proofs.Line.{Line, data-next, ack-next, idle-next, Idle, by-size, by-sum, a-nak, line-taken, line-freed, line-mono}
 use Rattle.pair.proofs.Invariant.{Inv, inv-swap, restated, delivering, adding, inv-turned, inv-passed, inv-freed, inv-delivered, inv-added, inv-harm, inv-start, inv-first, window-small}
-use Rattle.pair.proofs.Calls.{sent-frame, last-said, Before, ends-silent, concluded-ack, ends-nothing, concluded-nak, concluded-repeat}
+use Rattle.pair.proofs.Calls.{heard-there, sent-frame, last-said, Before, concluded-silent, concluded-ack, concluded-nothing, concluded-nak, concluded-repeat}
 
 -- ---- take
 
@@ -51,8 +53,8 @@ taking S received rest a = called S a (leftBy a received rest) [] (deliveredBy a
 idle-kept : (s : Settings) (S : System) (frame received : List ℕ) (rest : List (List ℕ)) (ms : ℕ) (h : Heard) → IsClock ms → InRange s → s .format .d ≤ length frame → Before s S rest
     → acknowledgedIn h ≤ 3 → Idle h → Inv s (taking S received rest (obeyed (S .here .state) (S .here .slots) frame ms h))
 unfolding obeyed
-idle-kept s S frame received rest ms Size c r room I small by-size = concluded-nak s S frame rest 6 r (omega (arith, r .d-lo)) I
-idle-kept s S frame received rest ms Sum c r room I small by-sum = concluded-nak s S frame rest 6 r (omega (arith, r .d-lo)) I
+idle-kept s S frame received rest ms Size c r room I small by-size = concluded-nak s S frame rest (refusalOf Size) r (omega (arith, r .d-lo)) I
+idle-kept s S frame received rest ms Sum c r room I small by-sum = concluded-nak s S frame rest (refusalOf Sum) r (omega (arith, r .d-lo)) I
 idle-kept s S frame received rest ms (Nak k) c r room I small (a-nak k₁) = go (repeatable l k) refl
   where
     l : Link
@@ -62,7 +64,7 @@ idle-kept s S frame received rest ms (Nak k) c r room I small (a-nak k₁) = go 
     go true e =
         repeatable-holds (λ n. Inv s (taking S received rest (concluded (sendsRepeat l (S .here .slots) frame ms n) done 0 (S .here .slots)))) l k
         (wellFormed-facts l (I .here .sound .formed) .next) small e (λ j wait may. concluded-repeat s S j ms frame rest done c r room I wait may)
-    go false e = ends-nothing s S frame rest done I
+    go false e = concluded-nothing s S frame rest done I
 
 -- data that is not the expected one
 pass-kept : (s : Settings) (S : System) (frame received : List ℕ) (rest : List (List ℕ)) (x : ℕ) → InRange s → s .format .d ≤ length frame
@@ -115,7 +117,7 @@ ack-kept : (s : Settings) (S : System) (frame received : List ℕ) (rest : List 
     → Inv s (taking S received rest (obeyed (S .here .state) (S .here .slots) frame ms (Ack ((x + 3) % 4))))
 unfolding obeyed
 ack-kept s S frame received rest ms x I v w =
-    ends-nothing s (restated S (freed (S .here .state) ((x + 3) % 4)) rest) frame rest done (inv-freed s S x rest I v w)
+    concluded-nothing s (restated S (freed (S .here .state) ((x + 3) % 4)) rest) frame rest done (inv-freed s S x rest I v w)
 
 -- whatever the head of the queue is
 head-kept : (s : Settings) (S : System) (frame received : List ℕ) (rest : List (List ℕ)) (ms : ℕ) (I : Inv s S) → IsClock ms → InRange s → s .format .d ≤ length frame → Before s S rest
@@ -133,8 +135,8 @@ refused-kept : (s : Settings) (S : System) (frame received : List ℕ) (rest : L
 refused-kept s S frame received rest g e I = go (eqb g shortBuffer)
   where
     go : (t : Bool) → Inv s (called S (refused (S .here .state) g (S .here .slots) frame) (cond t (received ∷ rest) rest) [] [])
-    go true = ends-nothing s S frame (received ∷ rest) g (subst (Before s S) e I)
-    go false = ends-nothing s S frame rest g (inv-passed s S received rest e I)
+    go true = concluded-nothing s S frame (received ∷ rest) g (subst (Before s S) e I)
+    go false = concluded-nothing s S frame rest g (inv-passed s S received rest e I)
 
 pub take-kept : (s : Settings) (S : System) (frame received : List ℕ) (rest : List (List ℕ)) (ms : ℕ) → IsClock ms → InRange s → S .here .queue ≡ received ∷ rest → Inv s S
     → Inv s (takes S frame ms received rest)
@@ -146,14 +148,14 @@ take-kept s S frame received rest ms c r e I =
     l : Link
     l = S .here .state
 
-    d : l .settings .format .d ≡ s .format .d
-    d = ap (λ (x : Settings). x .format .d) (I .here .settings)
+    same : l .settings .format ≡ s .format
+    same = ap (λ (x : Settings). x .format) (I .here .settings)
 
     inside : gateOf l (length (S .here .slots)) (length frame) ≡ done → Inv s (taking S received rest (obeyed l (S .here .slots) frame ms (heard (l .settings .format) received)))
     inside q =
         let o : Open l (length (S .here .slots)) (length frame) = gateOf-facts l (length (S .here .slots)) (length frame) q in
-        let room : s .format .d ≤ length frame = subst (λ n. n ≤ length frame) d (o .entered .frame-room) in
-        subst (λ n. Inv s (taking S received rest (obeyed l (S .here .slots) frame ms (heard n received)))) (sym d)
+        let room : s .format .d ≤ length frame = subst (λ (f : Format). f .d ≤ length frame) same (o .entered .frame-room) in
+        subst (λ f. Inv s (taking S received rest (obeyed l (S .here .slots) frame ms (heard f received)))) (sym same)
         (head-kept s S frame received rest ms I c r room (inv-passed s S received rest e I) (subst (λ z. Line (s .format) (S .there .taken) (I .gotHere) (I .freedHere) (I .gotThere) z) e (I .toHere)))
 
 -- ---- submit
@@ -162,8 +164,8 @@ accepted-kept : (s : Settings) (S : System) (frame packet : List ℕ) (ms : ℕ)
     → Inv s (called S (packetAccepted (S .here .state) (S .here .slots) frame ms packet) (S .here .queue) (packet ∷ []) [])
 accepted-kept s S frame packet ms c r I a =
     let l : Link = S .here .state in
-    let bytes : List ℕ = dataFrame (l .next) (lastCorrect l) packet in
-    let size : length bytes ≡ length packet + 5 = frameOf-length (l .next * 4 + lastCorrect l) packet in
+    let bytes : List ℕ = dataFrame (l .settings .format) (l .next) (lastCorrect l) packet in
+    let size : length bytes ≡ length packet + 5 = frameOf-length (l .settings .format) (l .next * 4 + lastCorrect l) packet in
     let formed : Formed l = wellFormed-facts l (I .here .sound .formed) in
     let d : l .settings .format .d ≡ s .format .d = ap (λ (x : Settings). x .format .d) (I .here .settings) in
     let said : lastCorrect l ≡ (I .gotHere + 3) % 4 = last-said s (S .here) (S .there .taken) (I .freedHere) (I .gotHere) (I .here) in
@@ -173,11 +175,12 @@ accepted-kept s S frame packet ms c r I a =
     let whole : called S (packetAccepted l (S .here .slots) frame ms packet) (S .here .queue) (packet ∷ []) []
     ≡ adding S (sentFirst l ms (length packet)) (put (S .here .slots) (partOf l (l .next)) packet) packet (bytes ∷ []) = rw (sent, append-nil (S .here .delivered)) in
     let heard-as : heard (s .format) bytes ≡ Data (l .next) false ((I .gotHere + 3) % 4) (length packet) =
-    data-heard (s .format) (l .next) (lastCorrect l) packet (formed .next) (omega arith) (a .least) (omega (arith, a .most, r .d-lo)) ∙ ap (λ (k : ℕ). Data (l .next) false k (length packet)) said in
+    heard-there s l (λ f. dataFrame f (l .next) (lastCorrect l) packet) _ (I .here .settings)
+    (data-heard (s .format) (l .next) (lastCorrect l) packet (formed .next) (omega arith) (a .least) (omega (arith, a .most, r .d-lo))) ∙ ap (λ (k : ℕ). Data (l .next) false k (length packet)) said in
     subst (Inv s) (sym whole)
     (inv-added s S packet bytes ms I c
     (sentFirst-sound l ms (length (S .here .slots)) (length frame) (length packet) (I .here .sound) a)
-    (a .least) (a .most) (a .place) (put-length (S .here .slots) packet (partOf l (l .next)) fits) heard-as (packet-heard (l .next) (lastCorrect l) packet))
+    (a .least) (a .most) (a .place) (put-length (S .here .slots) packet (partOf l (l .next)) fits) heard-as (packet-heard (l .settings .format) (l .next) (lastCorrect l) packet))
 
 pub submit-kept : (s : Settings) (S : System) (frame packet : List ℕ) (ms : ℕ) → IsClock ms → InRange s → Inv s S → Inv s (submits S frame ms packet)
 unfolding submitted
@@ -192,7 +195,7 @@ submit-kept s S frame packet ms c r I =
     g = submitGate l (length (S .here .slots)) (length frame) (length packet)
 
     shut : (g ≡ done → ⊥) → Inv s (called S (refused l g (S .here .slots) frame) (S .here .queue) (cond (eqb g done) (packet ∷ []) []) [])
-    shut n = rw (ne-eqb g done n) (ends-nothing s S frame (S .here .queue) g I)
+    shut n = rw (ne-eqb g done n) (concluded-nothing s S frame (S .here .queue) g I)
 
 -- ---- look and acknowledge
 
@@ -206,13 +209,13 @@ served-kept s S frame j ms c r room I h = go (mayRepeat l (sentBefore l j)) refl
     go : (t : Bool) → mayRepeat l (sentBefore l j) ≡ t
         → Inv s (called S (cond t (concluded (sendsRepeat l (S .here .slots) frame ms (sentBefore l j)) done 0 (S .here .slots)) (exhausted l (S .here .slots) frame)) (S .here .queue) [] [])
     go true e = concluded-repeat s S j ms frame (S .here .queue) done c r room I h e
-    go false e = ends-silent s S (withLost l true) frame (S .here .queue) linkLost
+    go false e = concluded-silent s S (withLost l true) frame (S .here .queue) linkLost
         (inv-turned s S (l .starts) (l .repeated) (l .ackstart) (l .acking) (l .nakmark) true [] I (marked-sound l (l .ackstart) (l .acking) (l .nakmark) true (I .here .sound)) (I .here .timed) (rw append-nil (I .toThere)))
 
 acknowledged-kept : (s : Settings) (S : System) (frame : List ℕ) (owed : Bool) → InRange s → s .format .d ≤ length frame → Inv s S
     → Inv s (called S (acknowledgedIf owed (S .here .state) (S .here .slots) frame) (S .here .queue) [] [])
 acknowledged-kept s S frame true r room I = concluded-ack s S frame (S .here .queue) done r (omega (arith, r .d-lo)) I
-acknowledged-kept s S frame false r room I = ends-nothing s S frame (S .here .queue) done I
+acknowledged-kept s S frame false r room I = concluded-nothing s S frame (S .here .queue) done I
 
 lookedOpen-kept : (s : Settings) (S : System) (frame : List ℕ) (ms : ℕ) → IsClock ms → InRange s → s .format .d ≤ length frame → Inv s S
     → Inv s (called S (lookedOpen (S .here .state) (S .here .slots) frame ms) (S .here .queue) [] [])
@@ -236,7 +239,7 @@ open-kept : (s : Settings) (S : System) (frame : List ℕ) (inside : After Outco
 open-kept s S frame inside I f =
     gated-cases (λ a. Inv s (called S a (S .here .queue) [] [])) (gateOf l (length (S .here .slots)) (length frame)) l (S .here .slots) frame inside
     (λ q. f (subst (λ (x : Settings). x .format .d ≤ length frame) (I .here .settings) (gateOf-facts l (length (S .here .slots)) (length frame) q .entered .frame-room)))
-    (λ n. ends-nothing s S frame (S .here .queue) (gateOf l (length (S .here .slots)) (length frame)) I)
+    (λ n. concluded-nothing s S frame (S .here .queue) (gateOf l (length (S .here .slots)) (length frame)) I)
   where
     l : Link
     l = S .here .state

@@ -9,10 +9,9 @@ use Rattle.base.proofs.Tests.{and-both, or-first, or-second}
 use Rattle.state.specs.declared.Settings.{Settings}
 use Rattle.state.specs.declared.Link.{Link}
 use Rattle.state.specs.State.{sentBefore, startOf}
-use Rattle.state.specs.Timer.{left, due, onward}
+use Rattle.state.specs.Timer.{left, due, onward, packetDue, acknowledgeDue}
 use Rattle.state.specs.Formed.{InRange}
 use Rattle.state.proofs.Facts.{left-due}
-use Rattle.clock.specs.Look.{packetDue, acknowledgeDue}
 use Rattle.pair.specs.System.{System, IsClock}
 use Rattle.pair.specs.Round.{runs, dueAt, someRuns, someDue, Passes, stays, moves}
 use Rattle.pair.proofs.Invariant.{Timed, Inv}

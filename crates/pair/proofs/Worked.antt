@@ -21,10 +21,10 @@ unfolding submitted frameTaken freshOf put frameOf checksumOf inRange
 reached =
     let m0 : Moment settings moment0 = start slots slots refl (omega arith) (omega arith) in
     let m1 : Moment settings moment1 = here moment0 moment1 m0 (submit buffer loanA 4294967276 (omega arith)) in
-    let m2 : Moment settings moment2 = there moment1 moment2 m1 (harm [] (lost (dataFrame 0 3 loanA) [])) in
+    let m2 : Moment settings moment2 = there moment1 moment2 m1 (harm [] (lost (dataFrame (settings .format) 0 3 loanA) [])) in
     let m3 : Moment settings moment3 = here moment2 moment3 m2 (submit buffer loanB 4294967277 (omega arith)) in
-    let m4 : Moment settings moment4 = there moment3 moment4 m3 (take-head buffer (dataFrame 1 3 loanB) [] 4294967278 (omega arith) refl) in
-    let m5 : Moment settings moment5 = here moment4 moment5 m4 (harm ((0xFF ∷ []) ∷ []) (damaged (ackFrame 3) (0xFF ∷ []) [] (inl refl))) in
+    let m4 : Moment settings moment4 = there moment3 moment4 m3 (take-head buffer (dataFrame (settings .format) 1 3 loanB) [] 4294967278 (omega arith) refl) in
+    let m5 : Moment settings moment5 = here moment4 moment5 m4 (harm ((0xFF ∷ []) ∷ []) (damaged (ackFrame (settings .format) 3) (0xFF ∷ []) [] (inl refl))) in
     here moment5 moment6 m5 (take-head buffer (0xFF ∷ []) [] 4294967279 (omega arith) refl)
 
 pub worked : WorkedRun

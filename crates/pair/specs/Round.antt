@@ -9,8 +9,7 @@ use lib.ListN.{length}
 use lib.Dec.{ltb}
 use Rattle.state.specs.declared.Link.{Link}
 use Rattle.state.specs.Bounds.{frameNeed}
-use Rattle.state.specs.Timer.{onward}
-use Rattle.clock.specs.Look.{packetDue, acknowledgeDue}
+use Rattle.state.specs.Timer.{onward, packetDue, acknowledgeDue}
 use Rattle.pair.specs.System.{System, swap, takes, lookOf, looks}
 
 -- "every lent buffer long enough": the slots are, from the start

@@ -39,7 +39,7 @@ abbrev pub moment3 : System
 moment3 = submits moment2 buffer 4294967277 loanB
 
 abbrev pub moment4 : System
-moment4 = swap (takes (swap moment3) buffer 4294967278 (dataFrame 1 3 loanB) [])
+moment4 = swap (takes (swap moment3) buffer 4294967278 (dataFrame (settings .format) 1 3 loanB) [])
 
 abbrev pub moment5 : System
 moment5 = withQueue moment4 ((0xFF ∷ []) ∷ [])
@@ -51,7 +51,7 @@ moment6 = takes moment5 buffer 4294967279 (0xFF ∷ []) []
 -- it is such a moment as the statements speak of, and from clock 4,294,967,290 on four rounds bring both loans through in 136 ms
 pub record WorkedRun : Type 0 where
   pub moment : Moment settings moment6
-  pub nak : moment6 .there .queue ≡ nakFrame 0 ∷ []
+  pub nak : moment6 .there .queue ≡ nakFrame (settings .format) 0 ∷ []
   pub played : Played 4294967290 moment6 4
   pub total : played .total ≡ 136
   pub delivered : played .end .there .delivered ≡ loanA ∷ loanB ∷ []

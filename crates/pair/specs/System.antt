@@ -9,6 +9,7 @@ use mathlib.Core.Logic.{_⊎_}
 use lib.ListN.{length, take}
 use lib.Dec.{eqb}
 use Rattle.base.specs.Answer.{done, shortBuffer}
+use Rattle.frame.specs.declared.Format.{Format}
 use Rattle.frame.specs.declared.Heard.the-variants.{Size, Sum}
 use Rattle.frame.specs.Steps.{heard, packetIn}
 use Rattle.state.specs.declared.Settings.{Settings}
@@ -107,10 +108,10 @@ acknowledges S frame = called S (acknowledgedNow (S .here .state) (S .here .slot
 -- ---- the line
 
 -- a frame of the queue is lost, or damaged to any bytes that step 1 refuses
-pub data Harm (d : ℕ) : List (List ℕ) → List (List ℕ) → Type 0 where
-  lost : (x : List ℕ) (q : List (List ℕ)) → Harm d (x ∷ q) q
-  damaged : (x y : List ℕ) (q : List (List ℕ)) → (heard d y ≡ Size) ⊎ (heard d y ≡ Sum) → Harm d (x ∷ q) (y ∷ q)
-  later : (x : List ℕ) (q r : List (List ℕ)) → Harm d q r → Harm d (x ∷ q) (x ∷ r)
+pub data Harm (format : Format) : List (List ℕ) → List (List ℕ) → Type 0 where
+  lost : (x : List ℕ) (q : List (List ℕ)) → Harm format (x ∷ q) q
+  damaged : (x y : List ℕ) (q : List (List ℕ)) → (heard format y ≡ Size) ⊎ (heard format y ≡ Sum) → Harm format (x ∷ q) (y ∷ q)
+  later : (x : List ℕ) (q r : List (List ℕ)) → Harm format q r → Harm format (x ∷ q) (x ∷ r)
 
 abbrev pub withQueue : System → List (List ℕ) → System
 withQueue S queue = record {
@@ -136,7 +137,7 @@ pub data Move (S : System) : System → Type 0 where
   take-head : (frame received : List ℕ) (rest : List (List ℕ)) (ms : ℕ) → IsClock ms → S .here .queue ≡ received ∷ rest → Move S (takes S frame ms received rest)
   look : (frame : List ℕ) (ms : ℕ) → IsClock ms → Move S (looks S frame ms)
   acknowledge : (frame : List ℕ) → Move S (acknowledges S frame)
-  harm : (queue : List (List ℕ)) → Harm (S .here .state .settings .format .d) (S .here .queue) queue → Move S (withQueue S queue)
+  harm : (queue : List (List ℕ)) → Harm (S .here .state .settings .format) (S .here .queue) queue → Move S (withQueue S queue)
 
 -- ---- moments
 

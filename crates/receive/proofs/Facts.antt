@@ -1,5 +1,5 @@
 -- What taking a frame cites. Assumes nothing.
-use mathlib.Core.Path.{_≡_, refl, sym, subst}
+use mathlib.Core.Path.{_≡_, sym, subst, _∙_}
 use mathlib.Core.Bool.{Bool, true, false, true≢false, _&&_}
 use mathlib.Core.List.{List}
 use Prim.Native.Nat.{ℕ, _<_, _≤_}
@@ -16,12 +16,12 @@ use Rattle.state.specs.declared.Outcome.{Outcome}
 use Rattle.state.specs.State.{behind, waits, sentBefore}
 use Rattle.state.specs.Gate.{After, gateOf}
 use Rattle.state.specs.Formed.{Open}
-use Rattle.state.proofs.Facts.{gated-open}
+use Rattle.state.proofs.Facts.{gateOf-facts, gated-open}
 use Rattle.send.specs.Repeat.{mayRepeat, Ready}
 use Rattle.send.specs.Makers.{silent, concluded, sendsAck}
 use Rattle.send.proofs.Facts.{waiting-ready}
 use Rattle.receive.specs.Steps.{freed, repeatable, afterStep6, afterDelivery}
-use Rattle.receive.specs.Take.{repeatedOr, dataTaken, obeyed, frameTaken}
+use Rattle.receive.specs.Take.{repeatedOr, dataDelivered, dataPassed, dataTaken, obeyed, frameTaken}
 
 -- take behind an open gate
 pub frameTaken-open : (l : Link) (slots frame : List ℕ) (ms : ℕ) (received : List ℕ) → gateOf l (length slots) (length frame) ≡ done
@@ -51,32 +51,38 @@ repeatable-ready l number slots frame o h e =
     repeatable-holds (λ k. Ready l k slots frame) l number (o .entered .formed .next) h e (λ n w may. waiting-ready l n slots frame o w may)
 
 -- also in the state after step 6, which a NAK leaves as it is
-pub nak-ready : (l : Link) (nak : Bool) (number slots frame : ℕ) → Open l slots frame → number ≤ 3 → (nak && repeatable l number) ≡ true
-    → Ready (afterStep6 l nak number) number slots frame
-nak-ready l true number slots frame o h e = repeatable-ready l number slots frame o h e
-nak-ready l false number slots frame o h e = absurd (true≢false (sym e))
+pub step6-ready : (l sixth : Link) (nak repeat : Bool) (number slots frame : ℕ) → gateOf l slots frame ≡ done → number ≤ 3
+    → repeat ≡ repeatable l number → sixth ≡ afterStep6 l nak number → (nak && repeat) ≡ true → Ready sixth number slots frame
+step6-ready l sixth true repeat number slots frame g h e six may =
+    subst (λ k. Ready k number slots frame) (sym six) (repeatable-ready l number slots frame (gateOf-facts l slots frame g) h (sym e ∙ may))
+step6-ready l sixth false repeat number slots frame g h e six may = absurd (true≢false (sym may))
 
 -- step 6 leaves the expected number
-pub afterStep6-expected : (l : Link) (nak : Bool) (number : ℕ) → afterStep6 l nak number .expected ≡ l .expected
-afterStep6-expected l true number = refl
-afterStep6-expected l false number = refl
+pub step6-expected : (l sixth : Link) (nak : Bool) (number : ℕ) → sixth ≡ afterStep6 l nak number → l .expected ≤ 3 → sixth .expected ≤ 3
+step6-expected l sixth true number six h = rw six h
+step6-expected l sixth false number six h = rw six h
 
 -- ---- step 7
 
--- a data frame taken, of the state after step 6, the one after step 7, and whether a packet is repeated
-pub delivered-data : (l sixth seventh : Link) (slots frame : List ℕ) (ms number : ℕ) (nak repeat : Bool) (acknowledged len : ℕ) (r : After Outcome)
-    → number ≡ l .expected → repeat ≡ repeatable l acknowledged → sixth ≡ afterStep6 l nak acknowledged → seventh ≡ afterDelivery sixth ms
-    → r ≡ concluded (repeatedOr (nak && repeat) seventh slots frame ms acknowledged (silent seventh frame)) done len slots
-    → r ≡ dataTaken l slots frame ms number nak acknowledged len
-unfolding dataTaken
-delivered-data l sixth seventh slots frame ms number nak repeat acknowledged len r n e six seven q = rw (eq-eqb number (l .expected) n) cc
+pub delivered-by : (sixth seventh : Link) (slots frame : List ℕ) (ms acknowledged : ℕ) (repeat : Bool) (len : ℕ) (r : After Outcome)
+    → seventh ≡ afterDelivery sixth ms
+    → r ≡ concluded (repeatedOr repeat seventh slots frame ms acknowledged (silent seventh frame)) done len slots
+    → r ≡ dataDelivered sixth slots frame ms acknowledged repeat len
+delivered-by sixth seventh slots frame ms acknowledged repeat len r e q =
+    subst (λ (k : Link). r ≡ concluded (repeatedOr repeat k slots frame ms acknowledged (silent k frame)) done len slots) e q
 
-pub unexpected-data : (l sixth : Link) (slots frame : List ℕ) (ms number : ℕ) (nak repeat : Bool) (acknowledged len : ℕ) (r : After Outcome)
-    → (number ≡ l .expected → ⊥) → repeat ≡ repeatable l acknowledged → sixth ≡ afterStep6 l nak acknowledged
-    → r ≡ concluded (repeatedOr (nak && repeat) sixth slots frame ms acknowledged (sendsAck sixth frame)) unexpected 0 slots
-    → r ≡ dataTaken l slots frame ms number nak acknowledged len
+-- a data frame taken, of the state after step 6 and of whether a packet is repeated
+pub delivered-data : (l sixth : Link) (slots frame : List ℕ) (ms number : ℕ) (nak repeat : Bool) (acknowledged len : ℕ) (r : After Outcome)
+    → number ≡ l .expected → repeat ≡ repeatable l acknowledged → sixth ≡ afterStep6 l nak acknowledged
+    → r ≡ dataDelivered sixth slots frame ms acknowledged (nak && repeat) len → r ≡ dataTaken l slots frame ms number nak acknowledged len
 unfolding dataTaken
-unexpected-data l sixth slots frame ms number nak repeat acknowledged len r n e six q = rw (ne-eqb number (l .expected) n) cc
+delivered-data l sixth slots frame ms number nak repeat acknowledged len r n e six q = rw (eq-eqb number (l .expected) n, ← e, ← six) q
+
+pub passed-data : (l sixth : Link) (slots frame : List ℕ) (ms number : ℕ) (nak repeat : Bool) (acknowledged len : ℕ) (r : After Outcome)
+    → (number ≡ l .expected → ⊥) → repeat ≡ repeatable l acknowledged → sixth ≡ afterStep6 l nak acknowledged
+    → r ≡ dataPassed sixth slots frame ms acknowledged (nak && repeat) → r ≡ dataTaken l slots frame ms number nak acknowledged len
+unfolding dataTaken
+passed-data l sixth slots frame ms number nak repeat acknowledged len r n e six q = rw (ne-eqb number (l .expected) n, ← e, ← six) q
 
 -- data that carries an ACK: the expected number is delivered, and no other
 pub data-taken : (P : After Outcome → Type 0) (l : Link) (slots frame : List ℕ) (ms number acknowledged len : ℕ)

@@ -11,10 +11,11 @@ ghost use lib.ListN.{length};
 ghost use Rattle.base.specs.Answer.{done};
 ghost use Rattle.frame.specs.Steps.{acknowledgedIn};
 ghost use Rattle.state.specs.Gate.{after, gateOf};
+ghost use Rattle.state.specs.Formed.{Usable};
 ghost use Rattle.send.specs.Makers.{sending, silent, sendsAck};
 ghost use Rattle.send.specs.Repeat.{Ready};
 ghost use Rattle.receive.specs.Steps.{freed, repeatable, afterStep6, afterDelivery};
-ghost use Rattle.receive.specs.Take.{refusedWithNak, reset, repeatedOr, nakObeyed, dataTaken, obeyed, frameTaken};
+ghost use Rattle.receive.specs.Take.{refusedWithNak, repeatedOr, nakObeyed, dataDelivered, dataPassed, dataTaken, obeyed, frameTaken};
 
 // ---- step 6
 
@@ -92,6 +93,38 @@ fn repeat_or_ack(l: Link, slots: &[u8], frame: &mut [u8], ms: u32, number: u8, r
     send::send_ack(l, frame)
 }
 
+fn deliver_data(
+    sixth: Link,
+    slots: &[u8],
+    frame: &mut [u8],
+    ms: u32,
+    acknowledged: u8,
+    repeat: bool,
+    len: u16,
+) -> Outcome
+    requires { ⌜ (sixth .expected ≤ 3) × (repeat ≡ true → Ready sixth acknowledged (length (now slots)) (length (now frame))) ⌝ }
+    ensures { λ r. ⌜ after r (now (slots .entry)) (now (frame .exit)) ≡ dataDelivered sixth (now (slots .entry)) (now (frame .entry)) ms acknowledged repeat len ⌝ }
+{
+    let seventh = deliver(sixth, ms);
+    let sent = repeat_or_nothing(seventh, slots, frame, ms, acknowledged, repeat);
+    send::conclude(sent, answer::DONE, len)
+}
+
+fn pass_data(
+    sixth: Link,
+    slots: &[u8],
+    frame: &mut [u8],
+    ms: u32,
+    acknowledged: u8,
+    repeat: bool,
+) -> Outcome
+    requires { ⌜ (5 ≤ length (now frame)) × (repeat ≡ true → Ready sixth acknowledged (length (now slots)) (length (now frame))) ⌝ }
+    ensures { λ r. ⌜ after r (now (slots .entry)) (now (frame .exit)) ≡ dataPassed sixth (now (slots .entry)) (now (frame .entry)) ms acknowledged repeat ⌝ }
+{
+    let sent = repeat_or_ack(sixth, slots, frame, ms, acknowledged, repeat);
+    send::conclude(sent, answer::UNEXPECTED, 0)
+}
+
 fn take_data(
     l: Link,
     slots: &[u8],
@@ -102,19 +135,16 @@ fn take_data(
     acknowledged: u8,
     len: u16,
 ) -> Outcome
-    requires { ⌜ (gateOf l (length (now slots)) (length (now frame)) ≡ done) × (acknowledged ≤ 3) ⌝ }
+    requires { ⌜ (gateOf l (length (now slots)) (length (now frame)) ≡ done) × Usable l (length (now frame)) × (acknowledged ≤ 3) ⌝ }
     ensures { λ r. ⌜ after r (now (slots .entry)) (now (frame .exit)) ≡ dataTaken l (now (slots .entry)) (now (frame .entry)) ms number nak acknowledged len ⌝ }
 {
     // Step 6 decides on a repeat; its frame is made of the state after step 7.
     let repeat = nak & is_repeatable(l, acknowledged);
     let sixth = obey_acknowledgement(l, nak, acknowledged);
     if number == l.expected {
-        let seventh = deliver(sixth, ms);
-        let sent = repeat_or_nothing(seventh, slots, frame, ms, acknowledged, repeat);
-        return send::conclude(sent, answer::DONE, len);
+        return deliver_data(sixth, slots, frame, ms, acknowledged, repeat, len);
     }
-    let sent = repeat_or_ack(sixth, slots, frame, ms, acknowledged, repeat);
-    send::conclude(sent, answer::UNEXPECTED, 0)
+    pass_data(sixth, slots, frame, ms, acknowledged, repeat)
 }
 
 // ---- all steps
@@ -127,33 +157,17 @@ fn refuse(l: Link, slots: &[u8], frame: &mut [u8], h: Heard) -> Outcome
     send::conclude(sent, frame::refusal(h), 0)
 }
 
-fn obey_reset(l: Link) -> Outcome
-    ensures { λ r. ⌜ r ≡ reset l ⌝ }
-{
-    let state = state::renew(l);
-    Outcome {
-        state,
-        sent: 0,
-        delivered: 0,
-        answer: answer::DONE,
-        dropped: l.waiting,
-    }
-}
-
 fn obey_nak(l: Link, slots: &[u8], frame: &mut [u8], ms: u32, number: u8) -> Outcome
-    requires { ⌜ (gateOf l (length (now slots)) (length (now frame)) ≡ done) × (number ≤ 3) ⌝ }
+    requires { ⌜ (gateOf l (length (now slots)) (length (now frame)) ≡ done) × Usable l (length (now frame)) × (number ≤ 3) ⌝ }
     ensures { λ r. ⌜ after r (now (slots .entry)) (now (frame .exit)) ≡ nakObeyed l (now (slots .entry)) (now (frame .entry)) ms number ⌝ }
 {
     let repeat = is_repeatable(l, number);
-    send::conclude(
-        repeat_or_nothing(l, slots, frame, ms, number, repeat),
-        answer::DONE,
-        0,
-    )
+    let sent = repeat_or_nothing(l, slots, frame, ms, number, repeat);
+    send::conclude(sent, answer::DONE, 0)
 }
 
 fn obey(l: Link, slots: &[u8], frame: &mut [u8], ms: u32, h: Heard) -> Outcome
-    requires { ⌜ (gateOf l (length (now slots)) (length (now frame)) ≡ done) × (acknowledgedIn h ≤ 3) ⌝ }
+    requires { ⌜ (gateOf l (length (now slots)) (length (now frame)) ≡ done) × Usable l (length (now frame)) × (acknowledgedIn h ≤ 3) ⌝ }
     ensures { λ r. ⌜ after r (now (slots .entry)) (now (frame .exit)) ≡ obeyed l (now (slots .entry)) (now (frame .entry)) ms h ⌝ }
 {
     match h {
@@ -162,7 +176,7 @@ fn obey(l: Link, slots: &[u8], frame: &mut [u8], ms: u32, h: Heard) -> Outcome
         Heard::Code => refuse(l, slots, frame, Heard::Code),
         Heard::ControlSize => state::answer_only(l, frame::refusal(Heard::ControlSize)),
         Heard::Length => refuse(l, slots, frame, Heard::Length),
-        Heard::Reset => obey_reset(l),
+        Heard::Reset => state::become_fresh(l, 0),
         Heard::Ack(number) => state::answer_only(free(l, number), answer::DONE),
         Heard::Nak(number) => obey_nak(l, slots, frame, ms, number),
         Heard::Data {
@@ -174,6 +188,7 @@ fn obey(l: Link, slots: &[u8], frame: &mut [u8], ms: u32, h: Heard) -> Outcome
     }
 }
 
+// Obeys a received frame, and sends at most one.
 pub fn take(l: Link, slots: &[u8], frame: &mut [u8], ms: u32, received: &[u8]) -> Outcome
     ensures { λ r. ⌜ after r (now (slots .entry)) (now (frame .exit)) ≡ frameTaken l (now (slots .entry)) (now (frame .entry)) ms (now (received .entry)) ⌝ }
 {

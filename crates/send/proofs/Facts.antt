@@ -1,5 +1,5 @@
 -- What lets a packet be taken and a frame be made. Assumes nothing.
-use mathlib.Core.Path.{_≡_, ap}
+use mathlib.Core.Path.{_≡_, ap, subst}
 use mathlib.Core.Bool.{Bool, true, cond}
 use mathlib.Core.List.{List}
 use Prim.Native.Nat.{ℕ, _+_, _-_, _<_, _≤_}
@@ -10,17 +10,18 @@ use lib.ListN.{take, drop}
 use Rattle.base.specs.Range.{within}
 use Rattle.base.specs.Answer.{done, packetSize, windowFull}
 use Rattle.base.proofs.Tests.{within-low, within-high, passed, firstOf-left, firstOf-right}
+use Rattle.frame.specs.Bytes.{dataFrame, Written}
 use Rattle.state.specs.declared.Link.{Link}
 use Rattle.state.specs.Bounds.{limitOf}
 use Rattle.state.specs.declared.Outcome.{Outcome}
-use Rattle.state.specs.State.{sentBefore, slotOf, lengthOf, repeatedOf}
+use Rattle.state.specs.State.{lastCorrect, sentBefore, slotOf, lengthOf, repeatedOf}
 use Rattle.state.specs.Gate.{after, gateOf}
 use Rattle.state.specs.Formed.{InRange, Formed, Open}
 use Rattle.state.proofs.Facts.{gateOf-facts, slotOf-lt, part-inside}
-use Rattle.send.specs.Repeat.{partOf, mayRepeat, Ready}
+use Rattle.send.specs.Repeat.{partOf, packetOf, mayRepeat, Ready}
 use Rattle.send.specs.declared.Sent.{Sent}
 use Rattle.send.specs.Makers.{Sending, sending, concluded}
-use Rattle.send.specs.Submit.{packetGate, submitGate}
+use Rattle.send.specs.Submit.{packetGate, submitGate, Acceptable}
 
 -- what a gate of 0 says, as plain inequalities
 pub record Accepting (l : Link) (slots frame packet : ℕ) : Type 0 where
@@ -51,9 +52,30 @@ part-fits l number length slots frame o h =
     part-inside (slotOf l number) (l .settings .window) (limitOf (l .settings)) length slots
     (slotOf-lt l number (o .entered .formed .settings .window-lo)) h (o .entered .slots-room)
 
--- the part of a buffer from an index to the same index and n bytes on is n bytes
-pub part-is : (s : List ℕ) (at n : ℕ) → take (at + n - at) (drop at s) ≡ take n (drop at s)
-part-is s at n = let e : at + n - at ≡ n = omega arith in rw e
+-- all that taking a packet stands on
+pub submitGate-fits : (l : Link) (slots frame packet : ℕ) → submitGate l slots frame packet ≡ done → Acceptable l slots frame packet
+submitGate-fits l slots frame packet e =
+    let a : Accepting l slots frame packet = submitGate-facts l slots frame packet e in
+    let f : Formed l = a .gate .entered .formed in
+    let s : InRange (l .settings) = f .settings in (
+      (s .window-lo, s .window-hi),
+      (f .next, omega (arith, a .place, s .window-hi)),
+      (
+        part-fits l (l .next) packet slots frame (a .gate) (a .most),
+        omega (arith, a .most, a .gate .entered .frame-room, s .d-lo),
+        omega (arith, a .most, s .d-hi),
+      ),
+    )
+
+-- the frame of a packet that is read from its slot
+pub again-written : (l : Link) (slots before after : List ℕ) (number part len last sent : ℕ) → part ≡ partOf l number → len ≡ lengthOf l number
+    → last ≡ lastCorrect l → Written (dataFrame (l .settings .format) number last (take (part + len - part) (drop part slots))) before after sent
+    → Written (dataFrame (l .settings .format) number (lastCorrect l) (packetOf l slots number)) before after sent
+again-written l slots before after number part len last sent p n k w =
+    let same : part + len - part ≡ len = omega arith in
+    let packet : take (part + len - part) (drop part slots) ≡ packetOf l slots number = rw (same, p, n) in
+    subst (λ x. Written (dataFrame (l .settings .format) number (lastCorrect l) x) before after sent) packet
+    (subst (λ x. Written (dataFrame (l .settings .format) number x (take (part + len - part) (drop part slots))) before after sent) k w)
 
 -- a waiting packet that has been repeated fewer than TRANS_REPEAT times can be repeated
 pub waiting-ready : (l : Link) (n slots frame : ℕ) → Open l slots frame → n < l .waiting → mayRepeat l (sentBefore l n) ≡ true → Ready l (sentBefore l n) slots frame

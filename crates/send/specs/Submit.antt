@@ -1,5 +1,5 @@
 -- submit, on every input. Document 01, "Sending" and "Numbers returned".
-use Prim.Native.Nat.{ℕ, _+_, _%_}
+use Prim.Native.Nat.{ℕ, _+_, _%_, _≤_, _<_}
 use mathlib.Core.Bool.{cond}
 use mathlib.Core.List.{List}
 use lib.ListN.{length, set}
@@ -48,6 +48,17 @@ packetAccepted l slots frame ms packet =
     })
     (put slots (partOf l (l .next)) packet)
     (put frame 0 (dataFrame (l .settings .format) (l .next) (lastCorrect l) packet))
+
+-- ---- for the contracts of functions inside
+
+-- what taking a packet stands on: a slot, a number and a place for one more, and the packet fits the slot's part and its frame the buffer
+abbrev pub Acceptable : Link → ℕ → ℕ → ℕ → Type 0
+Acceptable l slots frame packet =
+    ((1 ≤ l .settings .window) × (l .settings .window ≤ 2))
+    × ((l .next ≤ 3) × (l .waiting < 2))
+    × ((partOf l (l .next) + packet ≤ slots) × (packet + 5 ≤ frame) × (packet ≤ 1019))
+
+-- ---- the call
 
 unfoldable pub submitted : Link → List ℕ → List ℕ → ℕ → List ℕ → After Outcome
 unfolding submitGate

@@ -6,13 +6,13 @@ use state::Outcome;
 ghost use mathlib.Core.Path.{_≡_};
 ghost use Prim.Native.Nat.{_+_, _≤_, _<_};
 ghost use lib.ListN.{length};
-ghost use Rattle.base.specs.Answer.{done};
 ghost use Rattle.base.specs.Buffer.{put};
 ghost use Rattle.state.specs.Gate.{after};
-ghost use Rattle.state.specs.State.{lengthOf, repeatedOf};
-ghost use Rattle.send.specs.Repeat.{partOf, dataSent, mayRepeat, Ready};
+ghost use Rattle.frame.specs.Bytes.{dataFrame, Written};
+ghost use Rattle.state.specs.State.{lastCorrect, lengthOf, repeatedOf};
+ghost use Rattle.send.specs.Repeat.{partOf, packetOf, dataSent, again, mayRepeat, Ready};
 ghost use Rattle.send.specs.Makers.{sending, sendsRepeat, ackStopped, sendsAck, marked, sendsNak};
-ghost use Rattle.send.specs.Submit.{submitGate, added, packetAccepted, submitted};
+ghost use Rattle.send.specs.Submit.{submitGate, added, sentFirst, packetAccepted, Acceptable, submitted};
 
 // A state, and the length of the frame that was sent with it, 0 for none.
 pub struct Sent {
@@ -20,6 +20,7 @@ pub struct Sent {
     pub sent: u16,
 }
 
+// What a call tells whose frame, if any, was made by a maker below: no packet is dropped.
 pub fn conclude(s: Sent, answer: u8, delivered: u16) -> Outcome
     ensures { λ r. ⌜ r ≡ record { state = s .state; sent = s .sent; delivered = delivered; dropped = 0; answer = answer } ⌝ }
 {
@@ -59,6 +60,7 @@ fn repeated_of(l: Link, number: u8) -> u8
     l.repeated[slot]
 }
 
+// Whether a packet has been repeated fewer than TRANS_REPEAT times.
 pub fn may_repeat(l: Link, number: u8) -> bool
     requires { ⌜ (1 ≤ l .settings .window) × (l .settings .window ≤ 2) ⌝ }
     ensures { λ r. ⌜ r ≡ mayRepeat l number ⌝ }
@@ -80,20 +82,36 @@ fn data_sent(l: Link, number: u8, ms: u32, count: u8) -> Link
     k
 }
 
-pub fn repeat(l: Link, slots: &[u8], frame: &mut [u8], ms: u32, number: u8) -> Sent
+fn count_repeat(l: Link, number: u8, ms: u32) -> Link
+    requires { ⌜ ((1 ≤ l .settings .window) × (l .settings .window ≤ 2)) × (repeatedOf l number < 255) ⌝ }
+    ensures { λ r. ⌜ r ≡ again l number ms ⌝ }
+{
+    data_sent(l, number, ms, repeated_of(l, number) + 1)
+}
+
+// The packet is read from its slot at each repeat: no frame is kept.
+fn write_again(l: Link, slots: &[u8], frame: &mut [u8], number: u8) -> u16
     requires { ⌜ Ready l number (length (now slots)) (length (now frame)) ⌝ }
-    ensures { λ r. ⌜ sending r (now (frame .exit)) ≡ sendsRepeat l (now (slots .entry)) (now (frame .entry)) ms number ⌝ }
+    ensures { λ r. ⌜ Written (dataFrame (l .settings .format) number (lastCorrect l) (packetOf l (now (slots .entry)) number)) (now (frame .entry)) (now (frame .exit)) r ⌝ }
 {
     let part = part_of(l, number);
     let end = part + length_of(l, number);
-    let sent = frame::write_data(
+    frame::write_data(
         l.settings.format,
         frame,
         number,
         state::last_correct(l),
         &slots[part..end],
-    );
-    let state = data_sent(l, number, ms, repeated_of(l, number) + 1);
+    )
+}
+
+// Sends the frame of a waiting packet once more.
+pub fn repeat(l: Link, slots: &[u8], frame: &mut [u8], ms: u32, number: u8) -> Sent
+    requires { ⌜ Ready l number (length (now slots)) (length (now frame)) ⌝ }
+    ensures { λ r. ⌜ sending r (now (frame .exit)) ≡ sendsRepeat l (now (slots .entry)) (now (frame .entry)) ms number ⌝ }
+{
+    let sent = write_again(l, slots, frame, number);
+    let state = count_repeat(l, number, ms);
     Sent { state, sent }
 }
 
@@ -107,6 +125,7 @@ fn stop_acknowledging(l: Link) -> Link
     k
 }
 
+// Sends a control ACK for the last correct number.
 pub fn send_ack(l: Link, frame: &mut [u8]) -> Sent
     requires { ⌜ 5 ≤ length (now frame) ⌝ }
     ensures { λ r. ⌜ sending r (now (frame .exit)) ≡ sendsAck l (now (frame .entry)) ⌝ }
@@ -124,6 +143,7 @@ fn mark(l: Link) -> Link
     k
 }
 
+// Sends a control NAK, unless one was sent since the last delivery.
 pub fn send_nak(l: Link, frame: &mut [u8]) -> Sent
     requires { ⌜ 5 ≤ length (now frame) ⌝ }
     ensures { λ r. ⌜ sending r (now (frame .exit)) ≡ sendsNak l (now (frame .entry)) ⌝ }
@@ -175,22 +195,37 @@ fn store(l: Link, slots: &mut [u8], packet: &[u8])
     buffer::copy_at(slots, part_of(l, l.next), packet);
 }
 
-fn accept(l: Link, slots: &mut [u8], frame: &mut [u8], ms: u32, packet: &[u8]) -> Outcome
-    requires { ⌜ submitGate l (length (now slots)) (length (now frame)) (length (now packet)) ≡ done ⌝ }
-    ensures { λ r. ⌜ after r (now (slots .exit)) (now (frame .exit)) ≡ packetAccepted l (now (slots .entry)) (now (frame .entry)) ms (now (packet .entry)) ⌝ }
+fn write_first(l: Link, frame: &mut [u8], packet: &[u8]) -> u16
+    requires { ⌜ (l .next ≤ 3) × (length (now packet) + 5 ≤ length (now frame)) × (length (now packet) ≤ 1019) ⌝ }
+    ensures { λ r. ⌜ Written (dataFrame (l .settings .format) (l .next) (lastCorrect l) (now (packet .entry))) (now (frame .entry)) (now (frame .exit)) r ⌝ }
 {
-    store(l, slots, packet);
-    let sent = frame::write_data(
+    frame::write_data(
         l.settings.format,
         frame,
         l.next,
         state::last_correct(l),
         packet,
-    );
-    let state = add(data_sent(l, l.next, ms, 0), packet.len() as u16);
+    )
+}
+
+fn send_first(l: Link, ms: u32, packet: u16) -> Link
+    requires { ⌜ ((1 ≤ l .settings .window) × (l .settings .window ≤ 2)) × ((l .next ≤ 3) × (l .waiting < 2)) ⌝ }
+    ensures { λ r. ⌜ r ≡ sentFirst l ms packet ⌝ }
+{
+    add(data_sent(l, l.next, ms, 0), packet)
+}
+
+fn accept(l: Link, slots: &mut [u8], frame: &mut [u8], ms: u32, packet: &[u8]) -> Outcome
+    requires { ⌜ Acceptable l (length (now slots)) (length (now frame)) (length (now packet)) ⌝ }
+    ensures { λ r. ⌜ after r (now (slots .exit)) (now (frame .exit)) ≡ packetAccepted l (now (slots .entry)) (now (frame .entry)) ms (now (packet .entry)) ⌝ }
+{
+    store(l, slots, packet);
+    let sent = write_first(l, frame, packet);
+    let state = send_first(l, ms, packet.len() as u16);
     conclude(Sent { state, sent }, answer::DONE, 0)
 }
 
+// Takes a packet, if nothing stands against it, and sends its frame.
 pub fn submit(l: Link, slots: &mut [u8], frame: &mut [u8], ms: u32, packet: &[u8]) -> Outcome
     ensures { λ r. ⌜ after r (now (slots .exit)) (now (frame .exit)) ≡ submitted l (now (slots .entry)) (now (frame .entry)) ms (now (packet .entry)) ⌝ }
 {

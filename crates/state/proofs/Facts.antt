@@ -5,7 +5,7 @@ use mathlib.Core.List.{List}
 use Prim.Native.Nat.{ℕ, zero, suc, _+_, _-_, _*_, _%_, _<_, _≤_}
 use native.Mathlib.Nat.{mod-lt, mul-le-mul-right, suc-mul}
 use native.Mathlib.Omega.{arith}
-use borrow.Author.Tests.{leb-true, ltb-true, ltb-false, leb-false, eqb-true, eqb-false, le-leb, lt-ltb, le-ltb, eq-eqb, ne-eqb}
+use borrow.Author.Tests.{leb-true, ltb-true, ltb-false, eqb-true, eqb-false, le-leb, lt-ltb, le-ltb, eq-eqb}
 use lib.ListN.{getD}
 use lib.Dec.{leb, ltb, eqb}
 use Rattle.base.specs.Range.{within}
@@ -18,7 +18,7 @@ use Rattle.state.specs.Bounds.{limitOf, inRange, slotsNeed, frameNeed}
 use Rattle.state.specs.State.{sentBefore, slotOf, lengthOf, lengthOk, numbersOk, wellFormed}
 use Rattle.state.specs.Gate.{After, refused, gated, entryOf, gateOf}
 use Rattle.state.specs.Timer.{elapsed, left, due, onward}
-use Rattle.state.specs.Formed.{InRange, LengthOk, Formed, Entered, Open}
+use Rattle.state.specs.Formed.{InRange, LengthOk, Formed, Entered, Open, Usable}
 
 -- ---- settings
 
@@ -200,6 +200,12 @@ gateOf-facts l slots frame e =
 pub control-fits : (l : Link) (slots frame : ℕ) → Entered l slots frame → 5 ≤ frame
 control-fits l slots frame e = omega (arith, e .frame-room, e .formed .settings)
 
+pub open-usable : (l : Link) (slots frame : ℕ) → Open l slots frame → Usable l frame
+open-usable l slots frame o =
+    let f : Formed l = o .entered .formed in
+    let s : InRange (l .settings) = f .settings in
+    ((s .window-lo, s .window-hi), (f .next, f .expected, omega (arith, f .waiting, s .window-hi)), control-fits l slots frame (o .entered))
+
 pub gated-cases : (P : After Outcome → Type 0) (g : ℕ) (l : Link) (slots frame : List ℕ) (inside : After Outcome) → (g ≡ done → P inside)
     → ((g ≡ done → ⊥) → P (refused l g slots frame)) → P (gated g l slots frame inside)
 gated-cases P g l slots frame inside opened shut =
@@ -209,17 +215,6 @@ pub gated-open : (g : ℕ) (l : Link) (slots frame : List ℕ) (inside : After O
 gated-open g l slots frame inside e = rw (eq-eqb g done e)
 
 -- ---- timers
-
-leb-left : (a b : ℕ) → leb a b ≡ eqb (a - b) 0
-leb-left a b = go (leb a b) refl
-  where
-    go : (t : Bool) → leb a b ≡ t → t ≡ eqb (a - b) 0
-    go true e = sym (eq-eqb (a - b) 0 (omega (arith, leb-true a b e)))
-    go false e = sym (ne-eqb (a - b) 0 (λ z. omega (arith, leb-false a b e)))
-
--- due: the elapsed time, by a subtraction that wraps, is at least the timeout
-pub due-leb : (timeout start ms between : ℕ) → between ≡ elapsed start ms → leb timeout between ≡ due timeout start ms
-due-leb timeout start ms between e = rw e (leb-left timeout (elapsed start ms))
 
 -- when as many milliseconds have passed as were left the timer is due, wherever the clock wraps
 pub left-due : (timeout start ms : ℕ) → timeout ≤ 1000 → start < 4294967296 → ms < 4294967296 → due timeout start (onward ms (left timeout start ms)) ≡ true

@@ -24,10 +24,16 @@ unfolding inRange freshOf
 started s slots =
     cond (not (inRange s)) (only zeros outOfRange) (cond (ltb slots (slotsNeed s)) (only zeros shortBuffer) (only (freshOf s) done))
 
+-- how an end becomes fresh, by whatever call, with a frame of so many bytes sent: "the end becomes fresh with its settings kept, waiting packets
+-- are dropped, their count is told. Answer 0."
+abbrev pub becameFresh : Link → ℕ → Outcome
+becameFresh l sent = record { state = renewed l; sent = sent; delivered = 0; dropped = l .waiting; answer = done }
+
 -- "Resynchronise sends the reset frame, C0 00 00 9A 0A, and makes the end fresh, lost or not, dropping what waits."
 abbrev pub resetSent : Link → List ℕ → List ℕ → After Outcome
 resetSent l slots frame =
-    after (record { state = renewed l; sent = length (resetFrame (l .settings .format)); delivered = 0; dropped = l .waiting; answer = done }) slots (put frame 0 (resetFrame (l .settings .format)))
+    let bytes : List ℕ = resetFrame (l .settings .format) in
+    after (becameFresh l (length bytes)) slots (put frame 0 bytes)
 
 -- "(all but start and resynchronise)": 1 and 2 are asked, and not 3, for this is the way out of a lost link
 unfoldable pub resynchronised : Link → List ℕ → List ℕ → After Outcome

@@ -43,6 +43,11 @@ pub record Open (l : Link) (slots frame : ℕ) : Type 0 where
   pub entered : Entered l slots frame
   pub alive : l .lost ≡ false
 
+-- what the code behind an open gate stands on: no slot or number is looked up that is none, and a control frame fits
+abbrev pub Usable : Link → ℕ → Type 0
+Usable l frame =
+    ((1 ≤ l .settings .window) × (l .settings .window ≤ 2)) × ((l .next ≤ 3) × (l .expected ≤ 3) × (l .waiting ≤ 2)) × (5 ≤ frame)
+
 -- a state whose arrays have two elements, as every state has that code can hold, and that is well formed: a list with no place for a slot would
 -- lose what is stored there (DECISIONS D80)
 pub record Sound (l : Link) : Type 0 where

@@ -1,7 +1,12 @@
 -- Document 01, "Sending": "Elapsed time is the difference of two clock values modulo 2^32; a timer is due when it is at least its timeout."
 use Prim.Native.Nat.{ℕ, _+_, _-_, _%_}
-use mathlib.Core.Bool.{Bool}
-use lib.Dec.{eqb}
+use mathlib.Core.Bool.{Bool, cond, _&&_}
+use lib.Dec.{eqb, ltb}
+use Rattle.base.specs.Range.{leastOf}
+use Rattle.state.specs.declared.Link.{Link}
+use Rattle.state.specs.State.{sentBefore, startOf, wellFormed}
+
+-- ---- one timer
 
 -- "Easy to get wrong": "Comparing deadline and clock by size.": there is no deadline here, and a wrap between start and now does not matter
 abbrev pub elapsed : ℕ → ℕ → ℕ
@@ -18,3 +23,31 @@ due timeout start ms = eqb (left timeout start ms) 0
 -- the clock so many milliseconds on: it wraps at 2^32. No call moves a clock; this is for the timer rounds (pair).
 abbrev pub onward : ℕ → ℕ → ℕ
 onward ms passed = (ms + passed) % 4294967296
+
+-- ---- the timers of an end
+
+-- the timer of the packet that n were sent after: it runs while the packet waits
+abbrev pub packetDue : Link → ℕ → ℕ → Bool
+packetDue l n ms = ltb n (l .waiting) && due (l .settings .transtimeout) (startOf l (sentBefore l n)) ms
+
+abbrev pub acknowledgeDue : Link → ℕ → Bool
+acknowledgeDue l ms = l .acking && due (l .settings .acktimeout) (l .ackstart) ms
+
+-- ---- how long none of them is due: for who waits, and no rule of document 01's
+
+-- no timer runs. No timeout comes near it.
+abbrev pub noTimer : ℕ
+noTimer = 65535
+
+-- a packet that was freed has no timer, whatever start time its slot still holds
+abbrev pub packetLeft : Link → ℕ → ℕ → ℕ
+packetLeft l n ms = cond (ltb n (l .waiting)) (left (l .settings .transtimeout) (startOf l (sentBefore l n)) ms) noTimer
+
+abbrev pub acknowledgeLeft : Link → ℕ → ℕ
+acknowledgeLeft l ms = cond (l .acking) (left (l .settings .acktimeout) (l .ackstart) ms) noTimer
+
+-- the least time left over all running timers, 0 where one is due. Of a state that every call refuses with 1 no timer is read.
+unfoldable pub timeLeft : Link → ℕ → ℕ
+unfolding wellFormed
+timeLeft l ms =
+    cond (wellFormed l) (leastOf (leastOf (packetLeft l 0 ms) (packetLeft l 1 ms)) (acknowledgeLeft l ms)) noTimer

@@ -5,10 +5,11 @@ ghost use mathlib.Core.Path.{_≡_};
 ghost use Prim.Native.Nat.{_≤_, _<_};
 ghost use lib.ListN.{length};
 ghost use Rattle.state.specs.Bounds.{limitOf, inRange, slotsNeed};
-ghost use Rattle.state.specs.State.{lastCorrect, behind, sentBefore, slotOf, lengthOk, numbersOk, wellFormed, freshOf, renewed};
+ghost use Rattle.state.specs.State.{lastCorrect, behind, sentBefore, slotOf, startOf, lengthOk, numbersOk, wellFormed, freshOf, renewed};
 ghost use Rattle.state.specs.Gate.{after, only, entryOf, gateOf};
-ghost use Rattle.state.specs.Timer.{elapsed, due};
-ghost use Rattle.state.specs.Calls.{zeros, started, resetSent, resynchronised};
+ghost use Rattle.base.specs.Range.{leastOf};
+ghost use Rattle.state.specs.Timer.{elapsed, left, due, packetDue, acknowledgeDue, packetLeft, acknowledgeLeft, timeLeft};
+ghost use Rattle.state.specs.Calls.{zeros, started, becameFresh, resetSent, resynchronised};
 
 pub struct Settings {
     pub format: Format,
@@ -192,11 +193,24 @@ pub fn fresh(s: Settings) -> Link
     }
 }
 
-// The one way by which an end becomes fresh with its settings kept.
-pub fn renew(l: Link) -> Link
+fn renew(l: Link) -> Link
     ensures { λ r. ⌜ r ≡ renewed l ⌝ }
 {
     fresh(l.settings)
+}
+
+// The one way by which an end becomes fresh with its settings kept: what it tells, with a frame of so many bytes sent.
+pub fn become_fresh(l: Link, sent: u16) -> Outcome
+    ensures { λ r. ⌜ r ≡ becameFresh l sent ⌝ }
+{
+    let state = renew(l);
+    Outcome {
+        state,
+        sent,
+        delivered: 0,
+        answer: answer::DONE,
+        dropped: l.waiting,
+    }
 }
 
 // ---- timers
@@ -207,10 +221,77 @@ fn elapsed_since(start: u32, ms: u32) -> u32
     std::num::wrapping_sub_u32(ms, start)
 }
 
-pub fn is_due(timeout: u16, start: u32, ms: u32) -> bool
-    ensures { λ r. ⌜ r ≡ due timeout start ms ⌝ }
+// The one test of a timer: 0 means due.
+fn left_of(timeout: u16, start: u32, ms: u32) -> u16
+    ensures { λ r. ⌜ r ≡ left timeout start ms ⌝ }
 {
-    (timeout as u32) <= elapsed_since(start, ms)
+    let passed = elapsed_since(start, ms);
+    if passed < timeout as u32 {
+        return timeout - passed as u16;
+    }
+    0
+}
+
+fn start_of(l: Link, n: u8) -> u32
+    requires { ⌜ (n ≤ 3) × (1 ≤ l .settings .window) × (l .settings .window ≤ 2) ⌝ }
+    ensures { λ r. ⌜ r ≡ startOf l (sentBefore l n) ⌝ }
+{
+    let slot = slot_of(l, sent_before(l, n));
+    l.starts[slot]
+}
+
+// Whether the packet that n were sent after waits and its timer is due.
+pub fn is_packet_due(l: Link, n: u8, ms: u32) -> bool
+    requires { ⌜ (n ≤ 3) × (1 ≤ l .settings .window) × (l .settings .window ≤ 2) ⌝ }
+    ensures { λ r. ⌜ r ≡ packetDue l n ms ⌝ }
+{
+    (n < l.waiting) & (left_of(l.settings.transtimeout, start_of(l, n), ms) == 0)
+}
+
+// Whether the acknowledge timer runs and is due.
+pub fn is_acknowledge_due(l: Link, ms: u32) -> bool
+    ensures { λ r. ⌜ r ≡ acknowledgeDue l ms ⌝ }
+{
+    l.acking & (left_of(l.settings.acktimeout, l.ackstart, ms) == 0)
+}
+
+// What time_left gives where no timer runs.
+pub const NO_TIMER: u16 = 65535;
+
+fn packet_left(l: Link, n: u8, ms: u32) -> u16
+    requires { ⌜ (n ≤ 3) × (1 ≤ l .settings .window) × (l .settings .window ≤ 2) ⌝ }
+    ensures { λ r. ⌜ r ≡ packetLeft l n ms ⌝ }
+{
+    if n < l.waiting {
+        return left_of(l.settings.transtimeout, start_of(l, n), ms);
+    }
+    NO_TIMER
+}
+
+fn acknowledge_left(l: Link, ms: u32) -> u16
+    ensures { λ r. ⌜ r ≡ acknowledgeLeft l ms ⌝ }
+{
+    if l.acking {
+        return left_of(l.settings.acktimeout, l.ackstart, ms);
+    }
+    NO_TIMER
+}
+
+fn least(a: u16, b: u16) -> u16
+    ensures { λ r. ⌜ r ≡ leastOf a b ⌝ }
+{
+    if a < b { a } else { b }
+}
+
+// The least milliseconds left over all running timers, 0 where one is due, NO_TIMER where none runs.
+pub fn time_left(l: Link, ms: u32) -> u16
+    ensures { λ r. ⌜ r ≡ timeLeft l ms ⌝ }
+{
+    if well_formed(l) {
+        let packet = least(packet_left(l, 0, ms), packet_left(l, 1, ms));
+        return least(packet, acknowledge_left(l, ms));
+    }
+    NO_TIMER
 }
 
 // ---- start and resynchronise
@@ -244,14 +325,7 @@ fn send_reset(l: Link, slots: &[u8], frame: &mut [u8]) -> Outcome
     ensures { λ r. ⌜ after r (now (slots .entry)) (now (frame .exit)) ≡ resetSent l (now (slots .entry)) (now (frame .entry)) ⌝ }
 {
     let sent = frame::write_reset(l.settings.format, frame);
-    let state = renew(l);
-    Outcome {
-        state,
-        sent,
-        delivered: 0,
-        answer: answer::DONE,
-        dropped: l.waiting,
-    }
+    become_fresh(l, sent)
 }
 
 pub fn resynchronise(l: Link, slots: &[u8], frame: &mut [u8], _ms: u32) -> Outcome

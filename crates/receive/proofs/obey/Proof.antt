@@ -1,34 +1,26 @@
 -- `receive::obey` meets its contract.
 -- Assumes nothing.
-use mathlib.Core.Path.{subst}
+use mathlib.Core.Path.{_≡_, subst}
 use Prim.Native.Nat.{_≤_}
+use Rattle.frame.specs.declared.Heard.{Heard}
 use Rattle.frame.specs.Steps.{acknowledgedIn}
-use Rattle.state.proofs.Facts.{gateOf-facts, control-fits}
 use Rattle.receive.specs.Take.{obeyed}
 use borrow.Author.Needs.{needs}
 use Rattle.receive.proofs.obey.Statement.{statement}
 use Rattle.receive.proofs.obey.Tie as tie
 
-refuse-requires : tie.Need-refuse-requires
-refuse-requires c κs = control-fits _ _ _ (gateOf-facts _ _ _ (c .before .before .before .before .before .pre .0) .entered)
-
-refuse-requires-2 : tie.Need-refuse-requires-2
-refuse-requires-2 c κs = control-fits _ _ _ (gateOf-facts _ _ _ (c .before .before .before .before .before .pre .0) .entered)
-
-refuse-requires-3 : tie.Need-refuse-requires-3
-refuse-requires-3 c κs = control-fits _ _ _ (gateOf-facts _ _ _ (c .before .before .before .before .before .pre .0) .entered)
-
-refuse-requires-4 : tie.Need-refuse-requires-4
-refuse-requires-4 c κs = control-fits _ _ _ (gateOf-facts _ _ _ (c .before .before .before .before .before .pre .0) .entered)
+-- what was heard names a number of at most 3, so its case does
+named : (h known : Heard) → h ≡ known → acknowledgedIn h ≤ 3 → acknowledgedIn known ≤ 3
+named h known e n = subst (λ x. acknowledgedIn x ≤ 3) e n
 
 free-requires : tie.Need-free-requires
-free-requires c κs = subst (λ x. acknowledgedIn x ≤ 3) (c .before .h .given .1) (c .before .before .before .before .before .pre .1)
+free-requires c κs = named _ _ (c .before .h .given .1) (c .before .before .before .before .before .pre .2)
 
 obey-nak-requires : tie.Need-obey-nak-requires
-obey-nak-requires c κs = (c .before .before .before .before .before .before .pre .0, subst (λ x. acknowledgedIn x ≤ 3) (c .before .before .h2 .given .1) (c .before .before .before .before .before .before .pre .1))
+obey-nak-requires c κs = (c .before .before .before .before .before .before .pre .0, c .before .before .before .before .before .before .pre .1, named _ _ (c .before .before .h2 .given .1) (c .before .before .before .before .before .before .pre .2))
 
 take-data-requires : tie.Need-take-data-requires
-take-data-requires c κs = (c .before .before .before .before .before .before .pre .0, subst (λ x. acknowledgedIn x ≤ 3) (c .before .before .h3 .given .1) (c .before .before .before .before .before .before .pre .1))
+take-data-requires c κs = (c .before .before .before .before .before .before .pre .0, c .before .before .before .before .before .before .pre .1, named _ _ (c .before .before .h3 .given .1) (c .before .before .before .before .before .before .pre .2))
 
 returns : tie.Need-returns
 unfolding obeyed
@@ -52,7 +44,7 @@ returns-5 c = rw (c .before .before .before .before .enum-told5 .given .1) (c .b
 
 returns-6 : tie.Need-returns-6
 unfolding obeyed
-returns-6 c = rw (c .before .enum-told6 .given .1, c .obey-reset .ensures)
+returns-6 c = rw (c .before .enum-told6 .given .1, c .become-fresh .ensures)
 
 returns-7 : tie.Need-returns-7
 unfolding obeyed
@@ -67,4 +59,4 @@ unfolding obeyed
 returns-9 c = rw (c .before .before .before .before .before .h3 .given .1) (c .before .before .take-data .ensures)
 
 pub obey-spec : {M : Type 1} → statement M
-obey-spec = tie.close (tie.spec (λ c. search needs) refuse-requires (λ c. search needs) refuse-requires-2 (λ c. search needs) refuse-requires-3 (λ c. search needs) (λ c κs. search needs) (λ c κs. search needs) (λ c. search needs) refuse-requires-4 (λ c. search needs) (λ c κs. search needs) (λ c. search needs) free-requires (λ c κs. search needs) (λ c. search needs) obey-nak-requires (λ c. search needs) take-data-requires (λ c. search needs) returns (λ c. search needs) returns-2 (λ c. search needs) returns-3 returns-4 (λ c. search needs) returns-5 returns-6 returns-7 (λ c. search needs) returns-8 (λ c. search needs) returns-9)
+obey-spec = tie.close (tie.spec (λ c. search needs) (λ c κs. search needs) (λ c. search needs) (λ c κs. search needs) (λ c. search needs) (λ c κs. search needs) (λ c. search needs) (λ c κs. search needs) (λ c κs. search needs) (λ c. search needs) (λ c κs. search needs) (λ c. search needs) (λ c κs. search needs) (λ c. search needs) free-requires (λ c κs. search needs) (λ c. search needs) obey-nak-requires (λ c. search needs) take-data-requires (λ c. search needs) returns (λ c. search needs) returns-2 (λ c. search needs) returns-3 returns-4 (λ c. search needs) returns-5 returns-6 returns-7 (λ c. search needs) returns-8 (λ c. search needs) returns-9)

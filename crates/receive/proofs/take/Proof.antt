@@ -4,12 +4,14 @@ use mathlib.Core.Path.{sym, _∙_}
 use borrow.Author.Tests.{ne-eqb, eq-eqb}
 use Rattle.frame.proofs.Hearing.{number-heard}
 use Rattle.receive.specs.Take.{frameTaken}
+use Rattle.state.proofs.Facts.{gateOf-facts, open-usable}
 use borrow.Author.Needs.{needs}
 use Rattle.receive.proofs.take.Statement.{statement}
 use Rattle.receive.proofs.take.Tie as tie
 
 obey-requires : tie.Need-obey-requires
-obey-requires c κs = (sym (c .before .before .before .gate .ensures) ∙ c .before .before .if1 .taken, rw (c .before .hear .ensures) (number-heard _ _))
+obey-requires c κs = let g = sym (c .before .before .before .gate .ensures) ∙ c .before .before .if1 .taken in
+    (g, open-usable _ _ _ (gateOf-facts _ _ _ g), rw (c .before .hear .ensures) (number-heard _ _))
 
 returns : tie.Need-returns
 unfolding frameTaken

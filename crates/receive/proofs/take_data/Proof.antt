@@ -1,31 +1,26 @@
 -- `receive::take_data` meets its contract.
 -- Assumes nothing.
-use Rattle.state.proofs.Facts.{gateOf-facts, control-fits}
-use Rattle.send.proofs.Facts.{ended}
-use Rattle.receive.proofs.Facts.{nak-ready, afterStep6-expected, delivered-data, unexpected-data}
-use native.Mathlib.Omega.{arith}
+use Rattle.receive.proofs.Facts.{step6-ready, step6-expected, delivered-data, passed-data}
 use borrow.Author.Needs.{needs}
 use Rattle.receive.proofs.take_data.Statement.{statement}
 use Rattle.receive.proofs.take_data.Tie as tie
 
-is-repeatable-requires : tie.Need-is-repeatable-requires
-is-repeatable-requires c κs = omega (arith, c .before .before .pre .1, gateOf-facts _ _ _ (c .before .before .pre .0) .entered .formed .settings)
-
-deliver-requires : tie.Need-deliver-requires
-deliver-requires c κs = rw (c .before .before .obey-acknowledgement .ensures, afterStep6-expected) (gateOf-facts _ _ _ (c .before .before .before .before .before .before .pre .0) .entered .formed .expected)
-
-repeat-or-nothing-requires : tie.Need-repeat-or-nothing-requires
-repeat-or-nothing-requires c κs = rw (c .before .deliver .ensures, c .before .before .before .before .obey-acknowledgement .ensures, c .before .before .before .before .before .is-repeatable .ensures) (nak-ready _ (c .before .before .before .before .before .before .before .before .args .nak) _ _ _ (gateOf-facts _ _ _ (c .before .before .before .before .before .before .before .before .pre .0)) (c .before .before .before .before .before .before .before .before .pre .1))
+deliver-data-requires : tie.Need-deliver-data-requires
+deliver-data-requires c κs = let p = c .before .before .before .before .before .before .before .pre in
+    let a = c .before .before .before .before .before .before .before .args in (
+      step6-expected (a .l) _ (a .nak) (a .acknowledged) (c .before .before .before .obey-acknowledgement .ensures) (p .1 .1 .1),
+      step6-ready _ _ (a .nak) _ _ _ _ (p .0) (p .2) (c .before .before .before .before .is-repeatable .ensures) (c .before .before .before .obey-acknowledgement .ensures),
+    )
 
 returns : tie.Need-returns
-returns c = delivered-data _ _ _ _ _ _ _ _ _ _ _ _ (c .before .before .before .before .before .before .if1 .taken) (c .before .before .before .before .before .before .before .before .before .is-repeatable .ensures) (c .before .before .before .before .before .before .before .before .obey-acknowledgement .ensures) (c .before .before .before .before .before .deliver .ensures) (ended _ _ _ _ _ _ _ (c .conclude .ensures) (c .before .before .before .repeat-or-nothing .ensures))
+returns c = delivered-data _ _ _ _ _ _ _ _ _ _ _ (c .before .before .before .before .if1 .taken) (c .before .before .before .before .before .before .before .is-repeatable .ensures) (c .before .before .before .before .before .before .obey-acknowledgement .ensures) (c .before .before .deliver-data .ensures)
 
-repeat-or-ack-requires : tie.Need-repeat-or-ack-requires
-repeat-or-ack-requires c κs = let o = gateOf-facts _ _ _ (c .before .before .before .before .before .before .before .pre .0) in
-    rw (c .before .before .before .obey-acknowledgement .ensures, c .before .before .before .before .is-repeatable .ensures) (nak-ready _ (c .before .before .before .before .before .before .before .args .nak) _ _ _ o (c .before .before .before .before .before .before .before .pre .1), control-fits _ _ _ (o .entered))
+pass-data-requires : tie.Need-pass-data-requires
+pass-data-requires c κs = let p = c .before .before .before .before .before .before .before .pre in
+    (p .1 .2, step6-ready _ _ (c .before .before .before .before .before .before .before .args .nak) _ _ _ _ (p .0) (p .2) (c .before .before .before .before .is-repeatable .ensures) (c .before .before .before .obey-acknowledgement .ensures))
 
 returns-2 : tie.Need-returns-2
-returns-2 c = unexpected-data _ _ _ _ _ _ _ _ _ _ _ (c .before .before .before .before .before .if1 .left) (c .before .before .before .before .before .before .before .before .is-repeatable .ensures) (c .before .before .before .before .before .before .before .obey-acknowledgement .ensures) (ended _ _ _ _ _ _ _ (c .conclude2 .ensures) (c .before .before .before .repeat-or-ack .ensures))
+returns-2 c = passed-data _ _ _ _ _ _ _ _ _ _ _ (c .before .before .before .before .if1 .left) (c .before .before .before .before .before .before .before .is-repeatable .ensures) (c .before .before .before .before .before .before .obey-acknowledgement .ensures) (c .before .before .pass-data .ensures)
 
 pub take-data-spec : {M : Type 1} → statement M
-take-data-spec = tie.close (tie.spec is-repeatable-requires (λ c κs. search needs) deliver-requires repeat-or-nothing-requires (λ c κs. search needs) (λ c. search needs) returns repeat-or-ack-requires (λ c κs. search needs) (λ c. search needs) returns-2)
+take-data-spec = tie.close (tie.spec (λ c κs. search needs) (λ c κs. search needs) deliver-data-requires (λ c. search needs) returns pass-data-requires (λ c. search needs) returns-2)
