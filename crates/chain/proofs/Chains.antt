@@ -11,9 +11,9 @@ use Rattle.base.specs.Range.{within}
 use Rattle.base.specs.Answer.{done, outOfRange, shortBuffer, packetSize, otherChannel, chainFault, faultTold, securedPacket, tooLong}
 use Rattle.base.proofs.Tests.{and-left, cond-cases, within-low, within-high, passed, spared, firstOf-four}
 use Rattle.chain.specs.declared.Joining.{Joining}
-use Rattle.chain.specs.Pctr.{channelOf, securedOf, chainOf, fault}
+use Rattle.chain.specs.Pctr.{onlyChannel, channelOf, securedOf, chainOf, fault}
 use Rattle.chain.specs.Cut.{limitOk, longest, Cutting}
-use Rattle.chain.specs.Join.{freshJoining, Joins, joins, dropsChain, refusal, joinGate, begins, finishes, faulty, totalOf, chainGate, partTold, partAdded, partJoined, joined}
+use Rattle.chain.specs.Join.{closed, grown, Joins, joins, dropsChain, refusal, packetGate, joinGate, begins, finishes, faulty, totalOf, chainGate, partTold, partAdded, partJoined, joined}
 use Rattle.chain.specs.Promises.{CutSettled, JoinSettled, JoinKept}
 
 pub record Joinable (packet bytes : ℕ) : Type 0 where
@@ -22,13 +22,13 @@ pub record Joinable (packet bytes : ℕ) : Type 0 where
   pub room : longest ≤ bytes
 
 pub joinGate-facts : (m : ℕ) (j : Joining) (packet : List ℕ) (room : ℕ) → joinGate m j packet room ≡ done → Joinable (length packet) room
-unfolding joinGate
+unfolding joinGate packetGate
 joinGate-facts m j packet room e =
     let ok : Bool = limitOk m && leb (j .length) longest in
     let one : ℕ = cond ok done outOfRange in
     let two : ℕ = cond (ltb room longest) shortBuffer done in
     let three : ℕ = cond (within 1 (length packet) m) done packetSize in
-    let four : ℕ = cond (eqb (channelOf (getD packet 0 0)) 0) done otherChannel in
+    let four : ℕ = cond (eqb (channelOf (getD packet 0 0)) onlyChannel) done otherChannel in
     let f : (one ≡ done) × (two ≡ done) × (three ≡ done) × (four ≡ done) = firstOf-four one two three four e in
     let m-ok : limitOk m ≡ true = and-left (limitOk m) (leb (j .length) longest) (passed ok outOfRange (omega arith) (f .0)) in
     let size : within 1 (length packet) m ≡ true = passed (within 1 (length packet) m) packetSize (omega arith) (f .2) in
@@ -60,24 +60,24 @@ join-settled m j packet room told other written otherWritten p q =
     let e = p ∙ sym q in
     (ap (λ (j : Joins). j .told) e, ap (λ (j : Joins). j .room) e)
 
-refusal-kept : (j : Joining) (answer : ℕ) → j .length ≤ longest → refusal j answer .state .length ≤ longest
-refusal-kept j answer h = cond-cases (λ (k : Joining). k .length ≤ longest) (dropsChain answer) freshJoining j (λ e. omega arith) (λ e. h)
+refusal-kept : (channel : ℕ) (j : Joining) (answer : ℕ) → j .length ≤ longest → refusal channel j answer .state .length ≤ longest
+refusal-kept channel j answer h = cond-cases (λ (k : Joining). k .length ≤ longest) (dropsChain answer) (closed j) j (λ e. omega arith) (λ e. h)
 
 part-kept : (j : Joining) (chain size : ℕ) → totalOf j chain size ≤ longest → partTold j chain size .state .length ≤ longest
 part-kept j chain size h =
-    cond-cases (λ (k : Joining). k .length ≤ longest) (finishes chain) freshJoining (record { length = totalOf j chain size; opened = true }) (λ e. omega arith) (λ e. h)
+    cond-cases (λ (k : Joining). k .length ≤ longest) (finishes chain) (closed j) (grown j (totalOf j chain size)) (λ e. omega arith) (λ e. h)
 
-partJoined-kept : (m : ℕ) (j : Joining) (packet room : List ℕ) → j .length ≤ longest → partJoined m j packet room .told .state .length ≤ longest
+partJoined-kept : (m channel : ℕ) (j : Joining) (packet room : List ℕ) → j .length ≤ longest → partJoined m channel j packet room .told .state .length ≤ longest
 unfolding partJoined
-partJoined-kept m j packet room h =
+partJoined-kept m channel j packet room h =
     let pctr : ℕ = getD packet 0 0 in
     let answer : ℕ = chainGate m j pctr (length packet) in
-    cond-cases (λ (a : Joins). a .told .state .length ≤ longest) (eqb answer done) (partAdded j packet (chainOf pctr) room) (joins (refusal j answer) room)
-    (λ e. part-kept j (chainOf pctr) (length packet) (chainGate-fits m j pctr (length packet) (eqb-true answer done e))) (λ e. refusal-kept j answer h)
+    cond-cases (λ (a : Joins). a .told .state .length ≤ longest) (eqb answer done) (partAdded j packet (chainOf pctr) room) (joins (refusal channel j answer) room)
+    (λ e. part-kept j (chainOf pctr) (length packet) (chainGate-fits m j pctr (length packet) (eqb-true answer done e))) (λ e. refusal-kept channel j answer h)
 
 pub join-kept : JoinKept
 unfolding joined
 join-kept m j packet room h =
     let answer : ℕ = joinGate m j packet (length room) in
-    cond-cases (λ (a : Joins). a .told .state .length ≤ longest) (eqb answer done) (partJoined m j packet room) (joins (refusal j answer) room)
-    (λ e. partJoined-kept m j packet room h) (λ e. refusal-kept j answer h)
+    cond-cases (λ (a : Joins). a .told .state .length ≤ longest) (eqb answer done) (partJoined m onlyChannel j packet room) (joins (refusal onlyChannel j answer) room)
+    (λ e. partJoined-kept m onlyChannel j packet room h) (λ e. refusal-kept onlyChannel j answer h)

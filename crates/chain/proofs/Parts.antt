@@ -9,12 +9,12 @@ use borrow.Author.Tests.{ltb-true, ltb-false}
 use lib.ListN.{length, take, drop, set, length-take, length-drop}
 use lib.Seq.{take-length, take-all}
 use lib.Dec.{ltb}
-use Rattle.base.specs.Range.{within}
+use Rattle.base.specs.Range.{within, leastOf}
 use Rattle.base.specs.Buffer.{put}
 use Rattle.base.specs.Answer.{done, outOfRange, shortBuffer, messageSize, noSuchPacket}
 use Rattle.base.proofs.Put.{put-length, put-put, put-sets}
 use Rattle.base.proofs.Tests.{cond-cases, within-low, within-high, passed, spared, firstOf-four}
-use Rattle.chain.specs.Cut.{limitOk, longest, leastOf, partSize, packetCount, chainAt, packetAt, cutGate, cutting, given}
+use Rattle.chain.specs.Cut.{limitOk, longest, partSize, packetCount, chainAt, partAt, messageGate, cutGate, cutting, given}
 use Rattle.chain.specs.Pctr.{pctrOf}
 
 -- ---- how many
@@ -47,22 +47,29 @@ length-take-least p xs =
     cond-cases (λ n. length (take p xs) ≡ n) (ltb p (length xs)) p (length xs)
     (λ e. simp length-take (omega (arith, ltb-true p (length xs) e))) (λ e. simp length-take (omega (arith, ltb-false p (length xs) e)))
 
--- the last step of cut: what was computed on the way is the packet's
-pub given-is : (m i : ℕ) (message buffer after : List ℕ) (count size pctr : ℕ) → count ≡ packetCount m (length message)
-    → size ≡ leastOf (partSize m) (length message - i * partSize m) → pctr ≡ pctrOf 0 (chainAt i count)
-    → after ≡ put buffer 0 (pctr ∷ take (i * partSize m + size - i * partSize m) (drop (i * partSize m) message))
-    → cutting (record { count = count; length = size + 1; answer = done }) after ≡ given m message i buffer
-given-is m i message buffer after count size pctr ec es ep ea =
-    let p : ℕ = partSize m in
+-- what is lent as part i of a message is part i of it ..
+pub part-is : (m i size : ℕ) (message : List ℕ) → size ≡ leastOf (partSize m) (length message - i * partSize m)
+    → take (i * partSize m + size - i * partSize m) (drop (i * partSize m) message) ≡ partAt m message i
+part-is m i size message e =
     let at : ℕ = i * partSize m in
     let rest : List ℕ = drop at message in
-    let left : length rest ≡ length message - at = length-drop at message in
-    let size-is : size ≡ leastOf p (length rest) = es ∙ sym (ap (leastOf p) left) in
-    let same : at + size - at ≡ leastOf p (length rest) = omega (arith, size-is) in
-    let part : take (at + size - at) rest ≡ take p rest = ap (λ (k : ℕ). take k rest) same ∙ take-least p rest in
-    let len : length (take p rest) ≡ size = length-take-least p rest ∙ sym size-is in
-    let told : size + 1 ≡ suc (length (take p rest)) = omega (arith, len) in
-    let packet : pctr ∷ take (at + size - at) rest ≡ packetAt m message i = cc in
+    let size-is : size ≡ leastOf (partSize m) (length rest) = e ∙ sym (ap (leastOf (partSize m)) (length-drop at message)) in
+    let same : at + size - at ≡ leastOf (partSize m) (length rest) = omega (arith, size-is) in
+    ap (λ (k : ℕ). take k rest) same ∙ take-least (partSize m) rest
+
+-- .. and has so many bytes
+pub part-length : (m i size : ℕ) (message : List ℕ) → size ≡ leastOf (partSize m) (length message - i * partSize m) → size ≡ length (partAt m message i)
+part-length m i size message e =
+    let at : ℕ = i * partSize m in
+    e ∙ sym (ap (leastOf (partSize m)) (length-drop at message)) ∙ sym (length-take-least (partSize m) (drop at message))
+
+-- the last step of cut: what was computed on the way is the packet's
+pub given-is : (m channel i : ℕ) (message buffer after : List ℕ) (count size chain pctr : ℕ) → count ≡ packetCount m (length message)
+    → size ≡ length (partAt m message i) → chain ≡ chainAt i count → pctr ≡ pctrOf channel chain
+    → after ≡ put buffer 0 (pctr ∷ partAt m message i)
+    → cutting (record { count = count; length = size + 1; answer = done }) after ≡ given m channel message i buffer
+given-is m channel i message buffer after count size chain pctr ec es eh ep ea =
+    let told : size + 1 ≡ suc (length (partAt m message i)) = omega (arith, es) in
     cc
 
 -- ---- what an open gate says
@@ -76,7 +83,7 @@ pub record Cuttable (m buffer message i : ℕ) : Type 0 where
   pub below : i < packetCount m message
 
 pub cutGate-facts : (m buffer message i : ℕ) → cutGate m buffer message i ≡ done → Cuttable m buffer message i
-unfolding cutGate
+unfolding cutGate messageGate
 cutGate-facts m buffer message i e =
     let one : ℕ = cond (limitOk m) done outOfRange in
     let two : ℕ = cond (ltb buffer m) shortBuffer done in

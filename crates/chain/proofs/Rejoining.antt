@@ -13,9 +13,9 @@ use Rattle.base.specs.Buffer.{put}
 use Rattle.base.proofs.Put.{put-length, put-take}
 use Rattle.base.proofs.Tests.{within-low, leb-same}
 use Rattle.chain.specs.declared.Joining.{Joining}
-use Rattle.chain.specs.Pctr.{pctrOf, whole, first, middle, last}
-use Rattle.chain.specs.Cut.{limitOk, longest, partSize, packetCount, chainAt, partAt, packetAt, packetsTo, cutGate, given, cutOut}
-use Rattle.chain.specs.Join.{freshJoining, joinGate, finishes, faulty, placeOf, totalOf, chainGate, partAdded, partJoined, joined}
+use Rattle.chain.specs.Pctr.{onlyChannel, pctrOf, whole, first, middle, last}
+use Rattle.chain.specs.Cut.{limitOk, longest, partSize, packetCount, chainAt, partAt, packetAt, packetsTo, messageGate, cutGate, given, cutOut}
+use Rattle.chain.specs.Join.{freshJoining, packetGate, joinGate, finishes, faulty, placeOf, totalOf, chainGate, partAdded, partJoined, joined}
 use Rattle.chain.specs.Promises.{cutsTo, CutsAll, LimitsAgree, Sized, none, more, PacketsSized, Reader, messageIn, readOne, readAll, Idle, dones, Rejoined, RejoinsAll, NoneBefore}
 use Rattle.chain.proofs.Parts.{part-begins, parts-all}
 
@@ -27,25 +27,25 @@ readAll-end m r [] packet = refl
 readAll-end m r (p ∷ packets) packet = readAll-end m (readOne m r p) packets packet
 
 cutGate-open : (m buffer message i : ℕ) → limitOk m ≡ true → m ≤ buffer → 1 ≤ message → message ≤ longest → i < packetCount m message → cutGate m buffer message i ≡ done
-unfolding cutGate
+unfolding cutGate messageGate
 cutGate-open m buffer message i e b lo hi c =
     rw (e, le-ltb buffer m b, le-leb 1 message lo, le-leb message longest hi, lt-ltb i (packetCount m message) c)
 
 cut-given : (m i : ℕ) (message buffer : List ℕ) → limitOk m ≡ true → m ≤ length buffer → 1 ≤ length message → length message ≤ longest → i < packetCount m (length message)
-    → cutOut m message i buffer ≡ given m message i buffer
+    → cutOut m message i buffer ≡ given m onlyChannel message i buffer
 unfolding cutOut
 cut-given m i message buffer e b lo hi c = rw (cutGate-open m (length buffer) (length message) i e b lo hi c)
 
 -- a packet is at most m bytes
-packet-fits : (m i : ℕ) (message : List ℕ) → 11 ≤ m → length (packetAt m message i) ≤ m
-packet-fits m i message h = simp length-take (omega arith)
+packet-fits : (m channel i : ℕ) (message : List ℕ) → 11 ≤ m → length (packetAt m channel message i) ≤ m
+packet-fits m channel i message h = simp length-take (omega arith)
 
 cuts-first : (m k : ℕ) (message buffer : List ℕ) → limitOk m ≡ true → m ≤ length buffer → 1 ≤ length message → length message ≤ longest → k ≤ packetCount m (length message)
-    → cutsTo m message buffer k ≡ packetsTo m message k
+    → cutsTo m message buffer k ≡ packetsTo m onlyChannel message k
 cuts-first m zero message buffer e b lo hi c = refl
 cuts-first m (suc k) message buffer e b lo hi c =
-    let packet : List ℕ = packetAt m message k in
-    let fits : length packet ≤ length buffer = omega (arith, packet-fits m k message (within-low 11 m 1019 e)) in
+    let packet : List ℕ = packetAt m onlyChannel message k in
+    let fits : length packet ≤ length buffer = omega (arith, packet-fits m onlyChannel k message (within-low 11 m 1019 e)) in
     let taken : take (length packet) (put buffer 0 packet) ≡ packet = put-take buffer packet 0 (length packet) (omega arith) fits in
     rw (cut-given m k message buffer e b lo hi c, cuts-first m k message buffer e b lo hi (omega arith), taken)
 
@@ -58,8 +58,8 @@ pub limits-agree : LimitsAgree
 limits-agree d = rw (leb-same 16 d 11 (d - 5) (λ h. omega arith) (λ h. omega arith), leb-same d 1024 (d - 5) 1019 (λ h. omega arith) (λ h. omega arith))
 
 -- a packet that is counted has a byte of the message
-packet-some : (m i : ℕ) (message : List ℕ) → 11 ≤ m → i < packetCount m (length message) → 2 ≤ length (packetAt m message i)
-packet-some m i message h c =
+packet-some : (m channel i : ℕ) (message : List ℕ) → 11 ≤ m → i < packetCount m (length message) → 2 ≤ length (packetAt m channel message i)
+packet-some m channel i message h c =
     let inside : i * partSize m < length message = part-begins m (length message) i h c in
     simp (length-take, length-drop) (omega (arith, inside))
 
@@ -67,13 +67,14 @@ sized-end : (m : ℕ) (packets : List (List ℕ)) (packet : List ℕ) → Sized 
 sized-end m packets packet none lo hi = more packet [] lo hi none
 sized-end m packets packet (more p ps l h rest) lo hi = more p (ps ++ (packet ∷ [])) l h (sized-end m ps packet rest lo hi)
 
-sized-first : (m k : ℕ) (message : List ℕ) → 11 ≤ m → k ≤ packetCount m (length message) → Sized m (packetsTo m message k)
-sized-first m zero message h c = none
-sized-first m (suc k) message h c =
-    sized-end m (packetsTo m message k) (packetAt m message k) (sized-first m k message h (omega arith)) (packet-some m k message h c) (packet-fits m k message h)
+sized-first : (m channel k : ℕ) (message : List ℕ) → 11 ≤ m → k ≤ packetCount m (length message) → Sized m (packetsTo m channel message k)
+sized-first m channel zero message h c = none
+sized-first m channel (suc k) message h c =
+    sized-end m (packetsTo m channel message k) (packetAt m channel message k) (sized-first m channel k message h (omega arith)) (packet-some m channel k message h c)
+    (packet-fits m channel k message h)
 
 pub packets-sized : PacketsSized
-packets-sized m message e = sized-first m (packetCount m (length message)) message (within-low 11 m 1019 e) (omega arith)
+packets-sized m channel message e = sized-first m channel (packetCount m (length message)) message (within-low 11 m 1019 e) (omega arith)
 
 -- ---- joining one packet
 
@@ -81,8 +82,8 @@ packets-sized m message e = sized-first m (packetCount m (length message)) messa
 joined-open : (m : ℕ) (j : Joining) (chain : ℕ) (part room : List ℕ) → limitOk m ≡ true → j .length ≤ longest → longest ≤ length room
     → 1 ≤ length part → length part + 1 ≤ m → chain ≤ 4 → faulty m (j .opened) chain (suc (length part)) ≡ false
     → totalOf j chain (suc (length part)) ≤ longest
-    → joined m j (pctrOf 0 chain ∷ part) room ≡ partAdded j (pctrOf 0 chain ∷ part) chain room
-unfolding joined joinGate partJoined chainGate
+    → joined m j (pctrOf onlyChannel chain ∷ part) room ≡ partAdded j (pctrOf onlyChannel chain ∷ part) chain room
+unfolding joined joinGate packetGate partJoined chainGate
 joined-open m j chain part room e small enough lo hi c ok total =
     let channel : (0 * 16 + chain) / 16 ≡ 0 = omega arith in
     let read : (0 * 16 + chain) % 8 ≡ chain = omega arith in
@@ -118,7 +119,7 @@ record Reading (m : ℕ) (message : List ℕ) (k : ℕ) (r s : Reader) : Type 0 
 read-one : (m k chain : ℕ) (message : List ℕ) (s : Reader) (part : List ℕ) → limitOk m ≡ true → s .state .length ≤ longest → longest ≤ length (s .room)
     → 1 ≤ length part → length part + 1 ≤ m → chain ≤ 4 → faulty m (s .state .opened) chain (suc (length part)) ≡ false
     → placeOf (s .state) chain ≡ k * partSize m → k * partSize m + length part ≤ longest
-    → readOne m s (pctrOf 0 chain ∷ part) ≡ record {
+    → readOne m s (pctrOf onlyChannel chain ∷ part) ≡ record {
       state = cond (finishes chain) freshJoining (record { length = k * partSize m + length part; opened = true });
       room = put (s .room) (k * partSize m) part;
       answers = s .answers ++ (done ∷ []);
@@ -128,7 +129,7 @@ read-one m k chain message s part e small enough lo hi c ok place total =
     let at : ℕ = k * partSize m in
     let size : suc (length part) - 1 ≡ length part = omega arith in
     let to : totalOf (s .state) chain (suc (length part)) ≡ at + length part = rw (place, size) in
-    let j : joined m (s .state) (pctrOf 0 chain ∷ part) (s .room) ≡ partAdded (s .state) (pctrOf 0 chain ∷ part) chain (s .room) =
+    let j : joined m (s .state) (pctrOf onlyChannel chain ∷ part) (s .room) ≡ partAdded (s .state) (pctrOf onlyChannel chain ∷ part) chain (s .room) =
     joined-open m (s .state) chain part (s .room) e small enough lo hi c ok (rw to total) in
     rw (j, to, place)
 
@@ -177,7 +178,7 @@ put-part-bytes p k room message part e h b =
 read-on : (m k chain : ℕ) (message : List ℕ) (r s : Reader) → limitOk m ≡ true → length message ≤ longest → Idle r → Reading m message k r s
     → suc k < packetCount m (length message) → s .state .length ≤ longest → chain ≤ 4 → finishes chain ≡ false
     → faulty m (s .state .opened) chain m ≡ false → placeOf (s .state) chain ≡ k * partSize m
-    → Reading m message (suc k) r (readOne m s (pctrOf 0 chain ∷ partAt m message k))
+    → Reading m message (suc k) r (readOne m s (pctrOf onlyChannel chain ∷ partAt m message k))
 read-on m k chain message r s e hi idle ih c small c4 f ok place =
     let p : ℕ = partSize m in
     let part : List ℕ = partAt m message k in
@@ -199,22 +200,22 @@ read-on m k chain message r s e hi idle ih c small c4 f ok place =
     })
 
 reading : (m k : ℕ) (message : List ℕ) (r : Reader) → limitOk m ≡ true → 1 ≤ length message → length message ≤ longest → Idle r → k < packetCount m (length message)
-    → Reading m message k r (readAll m r (packetsTo m message k))
+    → Reading m message k r (readAll m r (packetsTo m onlyChannel message k))
 reading m zero message r e lo hi idle c =
     record { answers = sym (append-nil (r .answers)); messages = refl; enough = refl; state = refl; bytes = rw zero-mul }
 reading m (suc zero) message r e lo hi idle c =
     let ih : Reading m message 0 r r = reading m zero message r e lo hi idle (omega arith) in
     let chain : chainAt 0 (packetCount m (length message)) ≡ first = rw (ne-eqb (packetCount m (length message)) 1 (λ q. omega arith)) in
-    subst (λ x. Reading m message 1 r (readOne m r (pctrOf 0 x ∷ partAt m message 0))) (sym chain)
+    subst (λ x. Reading m message 1 r (readOne m r (pctrOf onlyChannel x ∷ partAt m message 0))) (sym chain)
     (read-on m 0 first message r r e hi idle ih c (idle .small) (omega arith) refl (rw (idle .closed) (chain-first m)) (sym (zero-mul (partSize m))))
 reading m (suc (suc k)) message r e lo hi idle c =
     let count : ℕ = packetCount m (length message) in
-    let s : Reader = readAll m r (packetsTo m message (suc k)) in
+    let s : Reader = readAll m r (packetsTo m onlyChannel message (suc k)) in
     let ih : Reading m message (suc k) r s = reading m (suc k) message r e lo hi idle (omega arith) in
     let inside : suc k * partSize m < length message = part-begins m (length message) (suc k) (within-low 11 m 1019 e) (omega arith) in
     let chain : chainAt (suc k) count ≡ middle = rw (ne-eqb count 1 (λ q. omega arith), ne-eqb (suc k) 0 (λ q. omega arith), ne-eqb (suc k + 1) count (λ q. omega arith)) in
-    rw (readAll-end m r (packetsTo m message (suc k)) (packetAt m message (suc k)))
-    (subst (λ x. Reading m message (suc (suc k)) r (readOne m s (pctrOf 0 x ∷ partAt m message (suc k)))) (sym chain)
+    rw (readAll-end m r (packetsTo m onlyChannel message (suc k)) (packetAt m onlyChannel message (suc k)))
+    (subst (λ x. Reading m message (suc (suc k)) r (readOne m s (pctrOf onlyChannel x ∷ partAt m message (suc k)))) (sym chain)
     (read-on m (suc k) middle message r s e hi idle ih c (rw (ih .state) (omega arith)) (omega arith) refl (rw (ih .state) (chain-middle m)) (rw (ih .state))))
 
 pub none-before : NoneBefore
@@ -226,7 +227,7 @@ none-before m message r k e lo hi idle c =
 read-last : (m k chain : ℕ) (message : List ℕ) (r s : Reader) → limitOk m ≡ true → length message ≤ longest → Idle r → Reading m message k r s
     → suc k ≡ packetCount m (length message) → s .state .length ≤ longest → chain ≤ 4 → finishes chain ≡ true
     → ((size : ℕ) → 2 ≤ size → faulty m (s .state .opened) chain size ≡ false) → placeOf (s .state) chain ≡ k * partSize m
-    → Rejoined m message r (readOne m s (pctrOf 0 chain ∷ partAt m message k))
+    → Rejoined m message r (readOne m s (pctrOf onlyChannel chain ∷ partAt m message k))
 read-last m k chain message r s e hi idle ih c small c4 f ok place =
     let p : ℕ = partSize m in
     let part : List ℕ = partAt m message k in
@@ -250,20 +251,20 @@ read-last m k chain message r s e hi idle ih c small c4 f ok place =
     })
 
 last-read : (m k : ℕ) (message : List ℕ) (r : Reader) → limitOk m ≡ true → 1 ≤ length message → length message ≤ longest → Idle r
-    → suc k ≡ packetCount m (length message) → Rejoined m message r (readAll m r (packetsTo m message (suc k)))
+    → suc k ≡ packetCount m (length message) → Rejoined m message r (readAll m r (packetsTo m onlyChannel message (suc k)))
 last-read m zero message r e lo hi idle c =
     let ih : Reading m message 0 r r = reading m zero message r e lo hi idle (omega arith) in
     let chain : chainAt 0 (packetCount m (length message)) ≡ whole = rw (eq-eqb (packetCount m (length message)) 1 (sym c)) in
-    subst (λ x. Rejoined m message r (readOne m r (pctrOf 0 x ∷ partAt m message 0))) (sym chain)
+    subst (λ x. Rejoined m message r (readOne m r (pctrOf onlyChannel x ∷ partAt m message 0))) (sym chain)
     (read-last m 0 whole message r r e hi idle ih c (idle .small) (omega arith) refl (λ size h. rw (idle .closed) (chain-whole m size h)) (sym (zero-mul (partSize m))))
 last-read m (suc k) message r e lo hi idle c =
     let count : ℕ = packetCount m (length message) in
-    let s : Reader = readAll m r (packetsTo m message (suc k)) in
+    let s : Reader = readAll m r (packetsTo m onlyChannel message (suc k)) in
     let ih : Reading m message (suc k) r s = reading m (suc k) message r e lo hi idle (omega arith) in
     let inside : suc k * partSize m < length message = part-begins m (length message) (suc k) (within-low 11 m 1019 e) (omega arith) in
     let chain : chainAt (suc k) count ≡ last = rw (ne-eqb count 1 (λ q. omega arith), ne-eqb (suc k) 0 (λ q. omega arith), eq-eqb (suc k + 1) count (omega arith)) in
-    rw (readAll-end m r (packetsTo m message (suc k)) (packetAt m message (suc k)))
-    (subst (λ x. Rejoined m message r (readOne m s (pctrOf 0 x ∷ partAt m message (suc k)))) (sym chain)
+    rw (readAll-end m r (packetsTo m onlyChannel message (suc k)) (packetAt m onlyChannel message (suc k)))
+    (subst (λ x. Rejoined m message r (readOne m s (pctrOf onlyChannel x ∷ partAt m message (suc k)))) (sym chain)
     (read-last m (suc k) last message r s e hi idle ih c (rw (ih .state) (omega arith)) (omega arith) refl (λ size h. rw (ih .state) (chain-last m size h)) (rw (ih .state))))
 
 -- a message of at least one byte has at least one packet
@@ -277,6 +278,6 @@ some-packet m message h lo = go (packetCount m message) refl
 pub rejoins-all : RejoinsAll
 rejoins-all m message r e lo hi idle = go (packetCount m (length message)) refl
   where
-    go : (count : ℕ) → packetCount m (length message) ≡ count → Rejoined m message r (readAll m r (packetsTo m message count))
+    go : (count : ℕ) → packetCount m (length message) ≡ count → Rejoined m message r (readAll m r (packetsTo m onlyChannel message count))
     go zero q = absurd (omega (arith, some-packet m (length message) (within-low 11 m 1019 e) lo))
     go (suc k) q = last-read m k message r e lo hi idle (sym q)

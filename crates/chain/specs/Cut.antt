@@ -9,7 +9,7 @@ use Rattle.base.specs.Answer.{done, outOfRange, shortBuffer, messageSize, noSuc
 use Rattle.base.specs.Range.{within}
 use Rattle.base.specs.Buffer.{put}
 use Rattle.chain.specs.declared.Piece.{Piece}
-use Rattle.chain.specs.Pctr.{pctrOf, whole, first, middle, last}
+use Rattle.chain.specs.Pctr.{onlyChannel, pctrOf, whole, first, middle, last}
 
 -- "packet limit m = D − 5, PCTR included | 11 to 1,019"
 abbrev pub limitOk : ℕ → Bool
@@ -18,10 +18,6 @@ limitOk m = within 11 m 1019
 -- "APDU, bytes | 1 to 4,096"
 abbrev pub longest : ℕ
 longest = 4096
-
--- for the contract of a function inside
-abbrev pub leastOf : ℕ → ℕ → ℕ
-leastOf a b = cond (ltb a b) a b
 
 -- ---- the packets of a message
 
@@ -41,27 +37,30 @@ chainAt i count = cond (eqb count 1) whole (cond (eqb i 0) first (cond (eqb (i +
 abbrev pub partAt : ℕ → List ℕ → ℕ → List ℕ
 partAt m message i = take (partSize m) (drop (i * partSize m) message)
 
--- channel 0: "Not built: .. channels other than 0."
-abbrev pub packetAt : ℕ → List ℕ → ℕ → List ℕ
-packetAt m message i = pctrOf 0 (chainAt i (packetCount m (length message))) ∷ partAt m message i
+abbrev pub packetAt : ℕ → ℕ → List ℕ → ℕ → List ℕ
+packetAt m channel message i = pctrOf channel (chainAt i (packetCount m (length message))) ∷ partAt m message i
 
 -- by how many, so that the promises can speak of the first k packets as well as of all
-abbrev pub packetsTo : ℕ → List ℕ → ℕ → List (List ℕ)
-packetsTo m message zero = []
-packetsTo m message (suc k) = packetsTo m message k ++ (packetAt m message k ∷ [])
+abbrev pub packetsTo : ℕ → ℕ → List ℕ → ℕ → List (List ℕ)
+packetsTo m channel message zero = []
+packetsTo m channel message (suc k) = packetsTo m channel message k ++ (packetAt m channel message k ∷ [])
 
-abbrev pub packetsOf : ℕ → List ℕ → List (List ℕ)
-packetsOf m message = packetsTo m message (packetCount m (length message))
+abbrev pub packetsOf : ℕ → ℕ → List ℕ → List (List ℕ)
+packetsOf m channel message = packetsTo m channel message (packetCount m (length message))
 
 -- ---- the call
+
+-- 13 and 16, of m, the length of the message, and i
+unfoldable pub messageGate : ℕ → ℕ → ℕ → ℕ
+messageGate m message i =
+    firstOf (cond (within 1 message longest) done messageSize) (cond (ltb i (packetCount m message)) done noSuchPacket)
 
 -- "cutting, for an m outside 11 to 1,019, 1, then 2, 13, 16", of m, the length of the packet buffer, that of the message, and i;
 -- "a packet buffer m"
 unfoldable pub cutGate : ℕ → ℕ → ℕ → ℕ → ℕ
+unfolding messageGate
 cutGate m buffer message i =
-    firstOf (cond (limitOk m) done outOfRange)
-    (firstOf (cond (ltb buffer m) shortBuffer done)
-    (firstOf (cond (within 1 message longest) done messageSize) (cond (ltb i (packetCount m message)) done noSuchPacket)))
+    firstOf (cond (limitOk m) done outOfRange) (firstOf (cond (ltb buffer m) shortBuffer done) (messageGate m message i))
 
 -- what cut leaves: what it tells, and every byte of the packet buffer
 pub record Cutting : Type 0 where
@@ -72,13 +71,13 @@ abbrev pub cutting : Piece → List ℕ → Cutting
 cutting told buffer = record { told = told; buffer = buffer }
 
 -- "give packet number i of a message (an APDU), with its length and the packet count, both 0 if refused"
-abbrev pub given : ℕ → List ℕ → ℕ → List ℕ → Cutting
-given m message i buffer =
-    cutting (record { count = packetCount m (length message); length = length (packetAt m message i); answer = done })
-    (put buffer 0 (packetAt m message i))
+abbrev pub given : ℕ → ℕ → List ℕ → ℕ → List ℕ → Cutting
+given m channel message i buffer =
+    cutting (record { count = packetCount m (length message); length = length (packetAt m channel message i); answer = done })
+    (put buffer 0 (packetAt m channel message i))
 
 unfoldable pub cutOut : ℕ → List ℕ → ℕ → List ℕ → Cutting
 unfolding cutGate
 cutOut m message i buffer =
     let answer : ℕ = cutGate m (length buffer) (length message) i in
-    cond (eqb answer done) (given m message i buffer) (cutting (record { count = 0; length = 0; answer = answer }) buffer)
+    cond (eqb answer done) (given m onlyChannel message i buffer) (cutting (record { count = 0; length = 0; answer = answer }) buffer)

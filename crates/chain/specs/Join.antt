@@ -9,13 +9,21 @@ use Rattle.base.specs.Range.{within}
 use Rattle.base.specs.Buffer.{put}
 use Rattle.chain.specs.declared.Joining.{Joining}
 use Rattle.chain.specs.declared.Joined.{Joined}
-use Rattle.chain.specs.Pctr.{channelOf, securedOf, chainOf, pctrOf, whole, first, middle, last, fault}
+use Rattle.chain.specs.Pctr.{onlyChannel, channelOf, securedOf, chainOf, pctrOf, whole, first, middle, last, fault}
 use Rattle.chain.specs.Cut.{limitOk, longest}
 
 -- Document 01 names no state to begin with; it is the one after a finished or a dropped chain, in which "none is open and the joined length
 -- is 0". "Chaining has two calls": what gives this state is no third one.
 abbrev pub freshJoining : Joining
 freshJoining = record { length = 0; opened = false }
+
+-- what becomes of a joining whose chain ends or is dropped: "none is open and the joined length is 0" ..
+abbrev pub closed : Joining → Joining
+closed j = record { length = 0; opened = false }
+
+-- .. and of one that goes on, with so many bytes joined
+abbrev pub grown : Joining → ℕ → Joining
+grown j total = record { length = total; opened = true }
 
 -- what join leaves: what it tells, and every byte of the room
 pub record Joins : Type 0 where
@@ -27,7 +35,7 @@ joins told room = record { told = told; room = room }
 
 -- ---- refusals
 
--- "the one-byte packet 07 (section 5.2)"; of a channel, because the fifteen others follow
+-- "the one-byte packet 07 (section 5.2)", of a channel
 abbrev pub faultPacket : ℕ → ℕ
 faultPacket channel = pctrOf channel fault
 
@@ -36,26 +44,31 @@ abbrev pub dropsChain : ℕ → Bool
 dropsChain answer = eqb answer chainFault || (eqb answer tooLong || eqb answer faultTold)
 
 -- "With answer 10, and no other, joining also tells, as a number, the one-byte packet 07 (section 5.2) for the caller to submit."
-abbrev pub faultOf : ℕ → ℕ
-faultOf answer = cond (eqb answer chainFault) (faultPacket 0) 0
+abbrev pub faultOf : ℕ → ℕ → ℕ
+faultOf channel answer = cond (eqb answer chainFault) (faultPacket channel) 0
 
-abbrev pub refusal : Joining → ℕ → Joined
-refusal j answer = record {
-  state = cond (dropsChain answer) freshJoining j;
+abbrev pub refusal : ℕ → Joining → ℕ → Joined
+refusal channel j answer = record {
+  state = cond (dropsChain answer) (closed j) j;
   length = 0;
   answer = answer;
-  fault = faultOf answer;
+  fault = faultOf channel answer;
 }
 
 -- ---- the outer checks
 
--- "Joining also gives 1 first for such an m"; "a joined length above 4,096"; "room too short, 2; packet of 0 or more than m bytes, 4; channel
--- not 0, 11". "The slot buffer needs .., the joining room 4,096."
+-- "packet of 0 or more than m bytes, 4; channel not 0, 11"
+unfoldable pub packetGate : ℕ → List ℕ → ℕ
+packetGate m packet =
+    firstOf (cond (within 1 (length packet) m) done packetSize) (cond (eqb (channelOf (getD packet 0 0)) onlyChannel) done otherChannel)
+
+-- "Joining also gives 1 first for such an m"; "a joined length above 4,096"; "room too short, 2", then 4 and 11. "The slot buffer needs .., the
+-- joining room 4,096."
 unfoldable pub joinGate : ℕ → Joining → List ℕ → ℕ → ℕ
+unfolding packetGate
 joinGate m j packet room =
     firstOf (cond (limitOk m && leb (j .length) longest) done outOfRange)
-    (firstOf (cond (ltb room longest) shortBuffer done)
-    (firstOf (cond (within 1 (length packet) m) done packetSize) (cond (eqb (channelOf (getD packet 0 0)) 0) done otherChannel)))
+    (firstOf (cond (ltb room longest) shortBuffer done) (packetGate m packet))
 
 -- ---- the chain: the rules behind "channel not 0, 11", which will be the same for every channel
 
@@ -100,7 +113,7 @@ chainGate m j pctr size =
 -- length is 0."
 abbrev pub partTold : Joining → ℕ → ℕ → Joined
 partTold j chain size = record {
-  state = cond (finishes chain) freshJoining (record { length = totalOf j chain size; opened = true });
+  state = cond (finishes chain) (closed j) (grown j (totalOf j chain size));
   length = cond (finishes chain) (totalOf j chain size) 0;
   answer = done;
   fault = 0;
@@ -109,11 +122,12 @@ partTold j chain size = record {
 abbrev pub partAdded : Joining → List ℕ → ℕ → List ℕ → Joins
 partAdded j packet chain room = joins (partTold j chain (length packet)) (put room (placeOf j chain) (drop 1 packet))
 
-unfoldable pub partJoined : ℕ → Joining → List ℕ → List ℕ → Joins
+-- the channel is the packet's: nothing here reads it from the packet
+unfoldable pub partJoined : ℕ → ℕ → Joining → List ℕ → List ℕ → Joins
 unfolding chainGate
-partJoined m j packet room =
+partJoined m channel j packet room =
     let answer : ℕ = chainGate m j (getD packet 0 0) (length packet) in
-    cond (eqb answer done) (partAdded j packet (chainOf (getD packet 0 0)) room) (joins (refusal j answer) room)
+    cond (eqb answer done) (partAdded j packet (chainOf (getD packet 0 0)) room) (joins (refusal channel j answer) room)
 
 -- ---- the call
 
@@ -121,4 +135,4 @@ unfoldable pub joined : ℕ → Joining → List ℕ → List ℕ → Joins
 unfolding joinGate partJoined
 joined m j packet room =
     let answer : ℕ = joinGate m j packet (length room) in
-    cond (eqb answer done) (partJoined m j packet room) (joins (refusal j answer) room)
+    cond (eqb answer done) (partJoined m onlyChannel j packet room) (joins (refusal onlyChannel j answer) room)

@@ -12,6 +12,7 @@ use Rattle.base.specs.Range.{within}
 use Rattle.chain.specs.declared.Joining.{Joining}
 use Rattle.chain.specs.declared.Joined.{Joined}
 use Rattle.chain.specs.declared.Piece.{Piece}
+use Rattle.chain.specs.Pctr.{onlyChannel}
 use Rattle.chain.specs.Cut.{limitOk, longest, packetCount, packetsTo, packetsOf, cutting, cutOut}
 use Rattle.chain.specs.Join.{freshJoining, joins, joined}
 
@@ -26,7 +27,7 @@ cutsTo m message buffer (suc k) =
 abbrev pub CutsAll : Type 0
 CutsAll =
     (m : ℕ) (message buffer : List ℕ) → limitOk m ≡ true → m ≤ length buffer → 1 ≤ length message → length message ≤ longest
-    → cutsTo m message buffer (packetCount m (length message)) ≡ packetsOf m message
+    → cutsTo m message buffer (packetCount m (length message)) ≡ packetsOf m onlyChannel message
 
 -- ---- what is cut can be sent
 
@@ -41,7 +42,7 @@ pub data Sized (m : ℕ) : List (List ℕ) → Type 0 where
 
 -- submit refuses a "packet of 0 or more than m bytes", and joining a "000 or 100 of one byte": no packet of a message is one
 abbrev pub PacketsSized : Type 0
-PacketsSized = (m : ℕ) (message : List ℕ) → limitOk m ≡ true → Sized m (packetsOf m message)
+PacketsSized = (m channel : ℕ) (message : List ℕ) → limitOk m ≡ true → Sized m (packetsOf m channel message)
 
 -- ---- joining them gives the message
 
@@ -89,7 +90,7 @@ pub record Rejoined (m : ℕ) (message : List ℕ) (r s : Reader) : Type 0 where
 abbrev pub RejoinsAll : Type 0
 RejoinsAll =
     (m : ℕ) (message : List ℕ) (r : Reader) → limitOk m ≡ true → 1 ≤ length message → length message ≤ longest → Idle r
-    → Rejoined m message r (readAll m r (packetsOf m message))
+    → Rejoined m message r (readAll m r (packetsOf m onlyChannel message))
 
 -- After fewer of them, the first k: 0 to each, and no message.
 pub record Unfinished (k : ℕ) (r s : Reader) : Type 0 where
@@ -99,7 +100,7 @@ pub record Unfinished (k : ℕ) (r s : Reader) : Type 0 where
 abbrev pub NoneBefore : Type 0
 NoneBefore =
     (m : ℕ) (message : List ℕ) (r : Reader) (k : ℕ) → limitOk m ≡ true → 1 ≤ length message → length message ≤ longest → Idle r
-    → k < packetCount m (length message) → Unfinished k r (readAll m r (packetsTo m message k))
+    → k < packetCount m (length message) → Unfinished k r (readAll m r (packetsTo m onlyChannel message k))
 
 -- ---- the calls alone
 

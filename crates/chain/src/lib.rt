@@ -3,12 +3,13 @@ use base::answer;
 use base::buffer;
 ghost use mathlib.Core.Path.{_≡_};
 ghost use mathlib.Core.List.{_∷_};
-ghost use Prim.Native.Nat.{_+_, _≤_, _<_};
+ghost use Prim.Native.Nat.{_+_, _*_, _≤_, _<_};
 ghost use lib.ListN.{length};
 ghost use Rattle.base.specs.Buffer.{put};
+ghost use Rattle.base.specs.Range.{leastOf};
 ghost use Rattle.chain.specs.Pctr.{pctrOf};
-ghost use Rattle.chain.specs.Cut.{limitOk, leastOf, packetCount, chainAt, cutGate, cutting, given, cutOut};
-ghost use Rattle.chain.specs.Join.{freshJoining, joins, dropsChain, faultOf, refusal, joinGate, faulty, placeOf, totalOf, chainGate, partTold, partAdded, partJoined, joined};
+ghost use Rattle.chain.specs.Cut.{limitOk, partSize, packetCount, chainAt, partAt, messageGate, cutGate, cutting, given, cutOut};
+ghost use Rattle.chain.specs.Join.{freshJoining, closed, grown, joins, dropsChain, faultOf, refusal, packetGate, joinGate, faulty, placeOf, totalOf, chainGate, partTold, partAdded, partJoined, joined};
 
 // What cut tells of a packet.
 pub struct Piece {
@@ -37,6 +38,7 @@ const MOST_LIMIT: u16 = 1019;
 
 const LONGEST: usize = 4096;
 
+// The one channel that is built.
 const CHANNEL: u8 = 0;
 
 // CHAIN
@@ -89,6 +91,19 @@ fn chain_at(i: usize, count: usize) -> u8
     MIDDLE
 }
 
+fn message_gate(m: u16, message: usize, i: usize) -> u8
+    requires { ⌜ 11 ≤ m ⌝ }
+    ensures { λ r. ⌜ r ≡ messageGate m message i ⌝ }
+{
+    if (1 <= message) & (message <= LONGEST) {
+        if i < count_packets(m, message) {
+            return answer::DONE;
+        }
+        return answer::NO_SUCH_PACKET;
+    }
+    answer::MESSAGE_SIZE
+}
+
 fn cut_gate(m: u16, buffer: usize, message: usize, i: usize) -> u8
     ensures { λ r. ⌜ r ≡ cutGate m buffer message i ⌝ }
 {
@@ -96,13 +111,7 @@ fn cut_gate(m: u16, buffer: usize, message: usize, i: usize) -> u8
         if buffer < m as usize {
             return answer::SHORT_BUFFER;
         }
-        if (1 <= message) & (message <= LONGEST) {
-            if i < count_packets(m, message) {
-                return answer::DONE;
-            }
-            return answer::NO_SUCH_PACKET;
-        }
-        return answer::MESSAGE_SIZE;
+        return message_gate(m, message, i);
     }
     answer::OUT_OF_RANGE
 }
@@ -121,16 +130,25 @@ fn lay(packet: &mut [u8], pctr: u8, part: &[u8])
     buffer::copy_at(packet, 1, part);
 }
 
-fn give(m: u16, message: &[u8], i: usize, packet: &mut [u8]) -> Piece
-    requires { ⌜ ((11 ≤ m) × (m ≤ 1019)) × (length (now message) ≤ 4096) × (m ≤ length (now packet)) × (i < packetCount m (length (now message))) ⌝ }
-    ensures { λ r. ⌜ cutting r (now (packet .exit)) ≡ given m (now (message .entry)) i (now (packet .entry)) ⌝ }
+// Lays part i of the message behind its PCTR, and gives the part's length.
+fn lay_part(m: u16, message: &[u8], i: usize, pctr: u8, packet: &mut [u8]) -> usize
+    requires { ⌜ ((11 ≤ m) × (m ≤ 1019)) × (length (now message) ≤ 4096) × (m ≤ length (now packet)) × (i * partSize m < length (now message)) ⌝ }
+    ensures { λ r. ⌜ (r ≡ length (partAt m (now (message .entry)) i)) × (r ≤ 1018) × (now (packet .exit) ≡ put (now (packet .entry)) 0 (pctr ∷ partAt m (now (message .entry)) i)) ⌝ }
 {
-    let count = count_packets(m, message.len());
     let part = (m - 1) as usize;
     let at = i * part;
     let size = least(part, message.len() - at);
     let end = at + size;
-    lay(packet, pctr(CHANNEL, chain_at(i, count)), &message[at..end]);
+    lay(packet, pctr, &message[at..end]);
+    size
+}
+
+fn give(m: u16, channel: u8, message: &[u8], i: usize, packet: &mut [u8]) -> Piece
+    requires { ⌜ ((11 ≤ m) × (m ≤ 1019)) × (length (now message) ≤ 4096) × (m ≤ length (now packet)) × (i < packetCount m (length (now message))) × (channel ≤ 15) ⌝ }
+    ensures { λ r. ⌜ cutting r (now (packet .exit)) ≡ given m channel (now (message .entry)) i (now (packet .entry)) ⌝ }
+{
+    let count = count_packets(m, message.len());
+    let size = lay_part(m, message, i, pctr(channel, chain_at(i, count)), packet);
     Piece {
         count: count as u16,
         length: (size + 1) as u16,
@@ -138,12 +156,13 @@ fn give(m: u16, message: &[u8], i: usize, packet: &mut [u8]) -> Piece
     }
 }
 
+// Gives packet i of a message, if there is one.
 pub fn cut(m: u16, message: &[u8], i: u32, packet: &mut [u8]) -> Piece
     ensures { λ r. ⌜ cutting r (now (packet .exit)) ≡ cutOut m (now (message .entry)) i (now (packet .entry)) ⌝ }
 {
     let refusal = cut_gate(m, packet.len(), message.len(), i as usize);
     if refusal == answer::DONE {
-        return give(m, message, i as usize, packet);
+        return give(m, CHANNEL, message, i as usize, packet);
     }
     Piece {
         count: 0,
@@ -154,6 +173,7 @@ pub fn cut(m: u16, message: &[u8], i: u32, packet: &mut [u8]) -> Piece
 
 // ---- join: refusals
 
+// A joining to begin with: no chain open.
 pub fn fresh_joining() -> Joining
     ensures { λ r. ⌜ r ≡ freshJoining ⌝ }
 {
@@ -170,22 +190,42 @@ fn drops_chain(answer: u8) -> bool
         | ((answer == answer::TOO_LONG) | (answer == answer::FAULT_TOLD))
 }
 
-fn fault_of(answer: u8) -> u8
-    ensures { λ r. ⌜ r ≡ faultOf answer ⌝ }
+fn fault_of(channel: u8, answer: u8) -> u8
+    requires { ⌜ channel ≤ 15 ⌝ }
+    ensures { λ r. ⌜ r ≡ faultOf channel answer ⌝ }
 {
     if answer == answer::CHAIN_FAULT {
-        return pctr(CHANNEL, FAULT);
+        return pctr(channel, FAULT);
     }
     0
 }
 
-fn refuse(j: Joining, answer: u8) -> Joined
-    ensures { λ r. ⌜ r ≡ refusal j answer ⌝ }
+fn close(j: Joining) -> Joining
+    ensures { λ r. ⌜ r ≡ closed j ⌝ }
 {
-    let fault = fault_of(answer);
+    let mut k = j;
+    k.length = 0;
+    k.opened = false;
+    k
+}
+
+fn grow(j: Joining, total: u16) -> Joining
+    ensures { λ r. ⌜ r ≡ grown j total ⌝ }
+{
+    let mut k = j;
+    k.length = total;
+    k.opened = true;
+    k
+}
+
+fn refuse(channel: u8, j: Joining, answer: u8) -> Joined
+    requires { ⌜ channel ≤ 15 ⌝ }
+    ensures { λ r. ⌜ r ≡ refusal channel j answer ⌝ }
+{
+    let fault = fault_of(channel, answer);
     let mut state = j;
     if drops_chain(answer) {
-        state = fresh_joining();
+        state = close(j);
     }
     Joined {
         state,
@@ -195,6 +235,18 @@ fn refuse(j: Joining, answer: u8) -> Joined
     }
 }
 
+fn packet_gate(m: u16, packet: &[u8]) -> u8
+    ensures { λ r. ⌜ r ≡ packetGate m (now (packet .entry)) ⌝ }
+{
+    if (1 <= packet.len()) & (packet.len() <= m as usize) {
+        if packet[0] / 16 == CHANNEL {
+            return answer::DONE;
+        }
+        return answer::OTHER_CHANNEL;
+    }
+    answer::PACKET_SIZE
+}
+
 fn join_gate(m: u16, j: Joining, packet: &[u8], room: usize) -> u8
     ensures { λ r. ⌜ r ≡ joinGate m j (now (packet .entry)) room ⌝ }
 {
@@ -202,13 +254,7 @@ fn join_gate(m: u16, j: Joining, packet: &[u8], room: usize) -> u8
         if room < LONGEST {
             return answer::SHORT_BUFFER;
         }
-        if (1 <= packet.len()) & (packet.len() <= m as usize) {
-            if packet[0] / 16 == CHANNEL {
-                return answer::DONE;
-            }
-            return answer::OTHER_CHANNEL;
-        }
-        return answer::PACKET_SIZE;
+        return packet_gate(m, packet);
     }
     answer::OUT_OF_RANGE
 }
@@ -260,7 +306,7 @@ fn tell(j: Joining, chain: u8, size: usize) -> Joined
 {
     let total = (place_of(j, chain) + (size - 1)) as u16;
     if (chain == WHOLE) | (chain == LAST) {
-        let state = fresh_joining();
+        let state = close(j);
         return Joined {
             state,
             length: total,
@@ -268,10 +314,7 @@ fn tell(j: Joining, chain: u8, size: usize) -> Joined
             fault: 0,
         };
     }
-    let state = Joining {
-        length: total,
-        opened: true,
-    };
+    let state = grow(j, total);
     Joined {
         state,
         length: 0,
@@ -288,26 +331,27 @@ fn add_part(j: Joining, packet: &[u8], chain: u8, room: &mut [u8]) -> Joined
     tell(j, chain, packet.len())
 }
 
-fn join_part(m: u16, j: Joining, packet: &[u8], room: &mut [u8]) -> Joined
-    requires { ⌜ (1 ≤ length (now packet)) × (length (now packet) ≤ 1019) × (4096 ≤ length (now room)) ⌝ }
-    ensures { λ r. ⌜ joins r (now (room .exit)) ≡ partJoined m j (now (packet .entry)) (now (room .entry)) ⌝ }
+fn join_part(m: u16, channel: u8, j: Joining, packet: &[u8], room: &mut [u8]) -> Joined
+    requires { ⌜ (1 ≤ length (now packet)) × (length (now packet) ≤ 1019) × (4096 ≤ length (now room)) × (channel ≤ 15) ⌝ }
+    ensures { λ r. ⌜ joins r (now (room .exit)) ≡ partJoined m channel j (now (packet .entry)) (now (room .entry)) ⌝ }
 {
     let pctr = packet[0];
     let refusal = chain_gate(m, j, pctr, packet.len());
     if refusal == answer::DONE {
         return add_part(j, packet, pctr % 8, room);
     }
-    refuse(j, refusal)
+    refuse(channel, j, refusal)
 }
 
 // ---- join
 
+// Joins one packet to what is joined, if nothing stands against it.
 pub fn join(m: u16, j: Joining, packet: &[u8], room: &mut [u8]) -> Joined
     ensures { λ r. ⌜ joins r (now (room .exit)) ≡ joined m j (now (packet .entry)) (now (room .entry)) ⌝ }
 {
     let refusal = join_gate(m, j, packet, room.len());
     if refusal == answer::DONE {
-        return join_part(m, j, packet, room);
+        return join_part(m, CHANNEL, j, packet, room);
     }
-    refuse(j, refusal)
+    refuse(CHANNEL, j, refusal)
 }

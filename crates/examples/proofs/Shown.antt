@@ -41,8 +41,8 @@ after-example8 e =
     changed-sound (freshOf (e .settings)) (0 ∷ 0 ∷ []) (0 ∷ 0 ∷ []) (e .ms) 1 0 true false false s refl refl (omega arith) (omega arith) (f .repeated)
 
 -- D is at least 16
-longer : (e : End) (size : ℕ) → size ≤ 16 → ltb (e .settings .format) size ≡ false
-longer e size h = le-ltb (e .settings .format) size (omega (arith, inRange-facts (e .settings) (e .range) .d-lo))
+longer : (e : End) (size : ℕ) → size ≤ 16 → ltb (e .settings .format .d) size ≡ false
+longer e size h = le-ltb (e .settings .format .d) size (omega (arith, inRange-facts (e .settings) (e .range) .d-lo))
 
 -- example 6's frame
 abbrev six : List ℕ
@@ -59,13 +59,13 @@ pub shown : Table
 unfolding checksumOf frameOf sealed freshOf heard judged obeyed
 shown = record {
   example1 = refl;
-  example2 = refl;
-  example3 = refl;
-  example4 = refl;
-  example5 = refl;
-  example6 = refl;
-  example7-sum = refl;
-  example7-step4 = λ d h. rw (le-ltb d 5 h);
+  example2 = λ format. refl;
+  example3 = λ format. refl;
+  example4 = λ format. refl;
+  example5 = λ format. refl;
+  example6 = λ format. refl;
+  example7-sum = λ format. refl;
+  example7-step4 = λ format h. rw (le-ltb (format .d) 5 h);
   example7 = λ e. opened e (freshOf (e .settings)) (e .ms) (0x00 ∷ 0x00 ∷ 0x00 ∷ 0x00 ∷ 0x00 ∷ []) (fresh-end e) refl refl ∙ rw (longer e 5 (omega arith));
   example8 = delivered;
   example8-packet = λ e. ap (λ (a : After Outcome). packetIn six (a .told .delivered)) (delivered e);

@@ -7,6 +7,7 @@ use lib.ListN.{length}
 use Rattle.base.specs.Answer.{done, badFrame, unexpected}
 use Rattle.base.specs.Buffer.{put}
 use Rattle.fcs.specs.Checksum.{checksumOf}
+use Rattle.frame.specs.declared.Format.{Format}
 use Rattle.frame.specs.declared.Heard.the-variants.{Length}
 use Rattle.frame.specs.Bytes.{sealed, dataFrame, ackFrame, nakFrame, resetFrame}
 use Rattle.frame.specs.Steps.{heard, packetIn}
@@ -19,6 +20,7 @@ use Rattle.state.specs.State.{freshOf}
 use Rattle.state.specs.Gate.{After, after}
 use Rattle.state.specs.Timer.{elapsed}
 use Rattle.receive.specs.Take.{frameTaken}
+use Rattle.chain.specs.Pctr.{onlyChannel}
 use Rattle.chain.specs.Cut.{packetsOf}
 
 -- a fresh end with any settings in range and buffers that are long enough, at any millisecond
@@ -47,19 +49,19 @@ pub record Table : Type 0 where
   -- "The checksum of the ASCII digits 123456789 is 0x2189."
   pub example1 : checksumOf (0x31 ∷ 0x32 ∷ 0x33 ∷ 0x34 ∷ 0x35 ∷ 0x36 ∷ 0x37 ∷ 0x38 ∷ 0x39 ∷ []) ≡ 0x2189
   -- "80 00 00 ends EC 0C."
-  pub example2 : ackFrame 0 ≡ 0x80 ∷ 0x00 ∷ 0x00 ∷ 0xEC ∷ 0x0C ∷ []
+  pub example2 : (format : Format) → ackFrame format 0 ≡ 0x80 ∷ 0x00 ∷ 0x00 ∷ 0xEC ∷ 0x0C ∷ []
   -- "81 00 00 ends 30 56."
-  pub example3 : ackFrame 1 ≡ 0x81 ∷ 0x00 ∷ 0x00 ∷ 0x30 ∷ 0x56 ∷ []
+  pub example3 : (format : Format) → ackFrame format 1 ≡ 0x81 ∷ 0x00 ∷ 0x00 ∷ 0x30 ∷ 0x56 ∷ []
   -- "A0 00 00 ends D7 0F."
-  pub example4 : nakFrame 0 ≡ 0xA0 ∷ 0x00 ∷ 0x00 ∷ 0xD7 ∷ 0x0F ∷ []
+  pub example4 : (format : Format) → nakFrame format 0 ≡ 0xA0 ∷ 0x00 ∷ 0x00 ∷ 0xD7 ∷ 0x0F ∷ []
   -- "C0 00 00 ends 9A 0A."
-  pub example5 : sealed (0xC0 ∷ 0x00 ∷ 0x00 ∷ []) ≡ resetFrame
+  pub example5 : (format : Format) → sealed format (0xC0 ∷ 0x00 ∷ 0x00 ∷ []) ≡ resetFrame format
   -- "03 00 01 00 ends 15 3C (data 0, ACK 3)."
-  pub example6 : dataFrame 0 3 (0x00 ∷ []) ≡ 0x03 ∷ 0x00 ∷ 0x01 ∷ 0x00 ∷ 0x15 ∷ 0x3C ∷ []
+  pub example6 : (format : Format) → dataFrame format 0 3 (0x00 ∷ []) ≡ 0x03 ∷ 0x00 ∷ 0x01 ∷ 0x00 ∷ 0x15 ∷ 0x3C ∷ []
   -- "Five zero bytes have a right checksum": as it is written ..
-  pub example7-sum : sealed (0x00 ∷ 0x00 ∷ 0x00 ∷ []) ≡ 0x00 ∷ 0x00 ∷ 0x00 ∷ 0x00 ∷ 0x00 ∷ []
+  pub example7-sum : (format : Format) → sealed format (0x00 ∷ 0x00 ∷ 0x00 ∷ []) ≡ 0x00 ∷ 0x00 ∷ 0x00 ∷ 0x00 ∷ 0x00 ∷ []
   -- .. and as it is read: not step 1 refuses them, which answers 6 too, but step 4
-  pub example7-step4 : (d : ℕ) → 5 ≤ d → heard d (0x00 ∷ 0x00 ∷ 0x00 ∷ 0x00 ∷ 0x00 ∷ []) ≡ Length
+  pub example7-step4 : (format : Format) → 5 ≤ format .d → heard format (0x00 ∷ 0x00 ∷ 0x00 ∷ 0x00 ∷ 0x00 ∷ []) ≡ Length
   -- "a fresh end answers 6 and sends example 4's frame."
   pub example7 : (e : End) → frameTaken (freshOf (e .settings)) (e .slots) (e .frame) (e .ms) (0x00 ∷ 0x00 ∷ 0x00 ∷ 0x00 ∷ 0x00 ∷ [])
       ≡ after (told (withNakmark (freshOf (e .settings)) true) badFrame 5 0) (e .slots) (put (e .frame) 0 (0xA0 ∷ 0x00 ∷ 0x00 ∷ 0xD7 ∷ 0x0F ∷ []))
@@ -71,10 +73,10 @@ pub record Table : Type 0 where
       (0x03 ∷ 0x00 ∷ 0x01 ∷ 0x00 ∷ 0x15 ∷ 0x3C ∷ [])
       ≡ after (told (withAcking (delivered0 e) false) unexpected 5 0) (e .slots) (put (e .frame) 0 (0x80 ∷ 0x00 ∷ 0x00 ∷ 0xEC ∷ 0x0C ∷ []))
   -- "m = 11: 10 bytes make one packet."
-  pub example10 : (a b c d e f g h i j : ℕ) → packetsOf 11 (a ∷ b ∷ c ∷ d ∷ e ∷ f ∷ g ∷ h ∷ i ∷ j ∷ [])
+  pub example10 : (a b c d e f g h i j : ℕ) → packetsOf 11 onlyChannel (a ∷ b ∷ c ∷ d ∷ e ∷ f ∷ g ∷ h ∷ i ∷ j ∷ [])
       ≡ (0x00 ∷ a ∷ b ∷ c ∷ d ∷ e ∷ f ∷ g ∷ h ∷ i ∷ j ∷ []) ∷ []
   -- "11 bytes make packets of 11 and 2."
-  pub example11 : (a b c d e f g h i j k : ℕ) → packetsOf 11 (a ∷ b ∷ c ∷ d ∷ e ∷ f ∷ g ∷ h ∷ i ∷ j ∷ k ∷ [])
+  pub example11 : (a b c d e f g h i j k : ℕ) → packetsOf 11 onlyChannel (a ∷ b ∷ c ∷ d ∷ e ∷ f ∷ g ∷ h ∷ i ∷ j ∷ k ∷ [])
       ≡ (0x01 ∷ a ∷ b ∷ c ∷ d ∷ e ∷ f ∷ g ∷ h ∷ i ∷ j ∷ []) ∷ (0x04 ∷ k ∷ []) ∷ []
   -- "Start 4,294,967,290 and now 4: 10 ms elapsed."
   pub example12 : elapsed 4294967290 4 ≡ 10

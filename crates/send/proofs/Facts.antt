@@ -18,9 +18,9 @@ use Rattle.state.specs.State.{lastCorrect, sentBefore, slotOf, lengthOf, repeat
 use Rattle.state.specs.Gate.{after, gateOf}
 use Rattle.state.specs.Formed.{InRange, Formed, Open}
 use Rattle.state.proofs.Facts.{gateOf-facts, slotOf-lt, part-inside}
-use Rattle.send.specs.Repeat.{partOf, packetOf, mayRepeat, Ready}
+use Rattle.send.specs.Repeat.{partOf, mayRepeat, Ready}
 use Rattle.send.specs.declared.Sent.{Sent}
-use Rattle.send.specs.Makers.{Sending, sending, concluded}
+use Rattle.send.specs.Makers.{Sending, sending, repeatFrame, concluded}
 use Rattle.send.specs.Submit.{packetGate, submitGate, Acceptable}
 
 -- what a gate of 0 says, as plain inequalities
@@ -70,12 +70,10 @@ submitGate-fits l slots frame packet e =
 -- the frame of a packet that is read from its slot
 pub again-written : (l : Link) (slots before after : List ℕ) (number part len last sent : ℕ) → part ≡ partOf l number → len ≡ lengthOf l number
     → last ≡ lastCorrect l → Written (dataFrame (l .settings .format) number last (take (part + len - part) (drop part slots))) before after sent
-    → Written (dataFrame (l .settings .format) number (lastCorrect l) (packetOf l slots number)) before after sent
+    → Written (repeatFrame l slots number) before after sent
 again-written l slots before after number part len last sent p n k w =
     let same : part + len - part ≡ len = omega arith in
-    let packet : take (part + len - part) (drop part slots) ≡ packetOf l slots number = rw (same, p, n) in
-    subst (λ x. Written (dataFrame (l .settings .format) number (lastCorrect l) x) before after sent) packet
-    (subst (λ x. Written (dataFrame (l .settings .format) number x (take (part + len - part) (drop part slots))) before after sent) k w)
+    subst (λ x. Written x before after sent) (rw (same, p, n, k)) w
 
 -- a waiting packet that has been repeated fewer than TRANS_REPEAT times can be repeated
 pub waiting-ready : (l : Link) (n slots frame : ℕ) → Open l slots frame → n < l .waiting → mayRepeat l (sentBefore l n) ≡ true → Ready l (sentBefore l n) slots frame

@@ -37,8 +37,11 @@ concluded s answer delivered slots =
 
 -- "Each data frame, also a repeated one, carries ACK for the last correct number at that moment": made anew from the slot. "Easy to get wrong":
 -- "Repeating stored frame bytes: an old ACK three numbers back reads as one ahead."
+abbrev pub repeatFrame : Link → List ℕ → ℕ → List ℕ
+repeatFrame l slots number = dataFrame (l .settings .format) number (lastCorrect l) (packetOf l slots number)
+
 abbrev pub sendsRepeat : Link → List ℕ → List ℕ → ℕ → ℕ → Sending
-sendsRepeat l slots frame ms number = sends (again l number ms) (dataFrame (l .settings .format) number (lastCorrect l) (packetOf l slots number)) frame
+sendsRepeat l slots frame ms number = sends (again l number ms) (repeatFrame l slots number) frame
 
 -- "Every control ACK stops the acknowledge timer". Its start time stays, as the packets' do ("Freeing a packet leaves these as they are").
 abbrev pub ackStopped : Link → Link

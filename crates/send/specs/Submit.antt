@@ -35,19 +35,23 @@ added l packet =
 abbrev pub sentFirst : Link → ℕ → ℕ → Link
 sentFirst l ms packet = added (dataSent l (l .next) ms 0) packet
 
+-- "Each data frame, also a repeated one, carries ACK for the last correct number at that moment"
+abbrev pub firstFrame : Link → List ℕ → List ℕ
+firstFrame l packet = dataFrame (l .settings .format) (l .next) (lastCorrect l) packet
+
 -- "Submit copies the packet to the slot numbered (frame number modulo WIN_SIZE), the slot's part of the lent buffer beginning where the slot
--- begins; every other byte stays." "Each data frame, also a repeated one, carries ACK for the last correct number at that moment"
+-- begins; every other byte stays."
 abbrev pub packetAccepted : Link → List ℕ → List ℕ → ℕ → List ℕ → After Outcome
 packetAccepted l slots frame ms packet =
     after (record {
       state = sentFirst l ms (length packet);
-      sent = length (dataFrame (l .settings .format) (l .next) (lastCorrect l) packet);
+      sent = length (firstFrame l packet);
       delivered = 0;
       dropped = 0;
       answer = done;
     })
     (put slots (partOf l (l .next)) packet)
-    (put frame 0 (dataFrame (l .settings .format) (l .next) (lastCorrect l) packet))
+    (put frame 0 (firstFrame l packet))
 
 -- ---- for the contracts of functions inside
 

@@ -8,11 +8,11 @@ ghost use Prim.Native.Nat.{_+_, _≤_, _<_};
 ghost use lib.ListN.{length};
 ghost use Rattle.base.specs.Buffer.{put};
 ghost use Rattle.state.specs.Gate.{after};
-ghost use Rattle.frame.specs.Bytes.{dataFrame, Written};
-ghost use Rattle.state.specs.State.{lastCorrect, lengthOf, repeatedOf};
-ghost use Rattle.send.specs.Repeat.{partOf, packetOf, dataSent, again, mayRepeat, Ready};
-ghost use Rattle.send.specs.Makers.{sending, sendsRepeat, ackStopped, sendsAck, marked, sendsNak};
-ghost use Rattle.send.specs.Submit.{submitGate, added, sentFirst, packetAccepted, Acceptable, submitted};
+ghost use Rattle.frame.specs.Bytes.{Written};
+ghost use Rattle.state.specs.State.{lengthOf, repeatedOf};
+ghost use Rattle.send.specs.Repeat.{partOf, dataSent, again, mayRepeat, Ready};
+ghost use Rattle.send.specs.Makers.{sending, repeatFrame, sendsRepeat, ackStopped, sendsAck, marked, sendsNak};
+ghost use Rattle.send.specs.Submit.{submitGate, added, sentFirst, firstFrame, packetAccepted, Acceptable, submitted};
 
 // A state, and the length of the frame that was sent with it, 0 for none.
 pub struct Sent {
@@ -92,15 +92,16 @@ fn count_repeat(l: Link, number: u8, ms: u32) -> Link
 // The packet is read from its slot at each repeat: no frame is kept.
 fn write_again(l: Link, slots: &[u8], frame: &mut [u8], number: u8) -> u16
     requires { ⌜ Ready l number (length (now slots)) (length (now frame)) ⌝ }
-    ensures { λ r. ⌜ Written (dataFrame (l .settings .format) number (lastCorrect l) (packetOf l (now (slots .entry)) number)) (now (frame .entry)) (now (frame .exit)) r ⌝ }
+    ensures { λ r. ⌜ Written (repeatFrame l (now (slots .entry)) number) (now (frame .entry)) (now (frame .exit)) r ⌝ }
 {
     let part = part_of(l, number);
     let end = part + length_of(l, number);
+    let acknowledged = state::last_correct(l);
     frame::write_data(
         l.settings.format,
         frame,
         number,
-        state::last_correct(l),
+        acknowledged,
         &slots[part..end],
     )
 }
@@ -197,7 +198,7 @@ fn store(l: Link, slots: &mut [u8], packet: &[u8])
 
 fn write_first(l: Link, frame: &mut [u8], packet: &[u8]) -> u16
     requires { ⌜ (l .next ≤ 3) × (length (now packet) + 5 ≤ length (now frame)) × (length (now packet) ≤ 1019) ⌝ }
-    ensures { λ r. ⌜ Written (dataFrame (l .settings .format) (l .next) (lastCorrect l) (now (packet .entry))) (now (frame .entry)) (now (frame .exit)) r ⌝ }
+    ensures { λ r. ⌜ Written (firstFrame l (now (packet .entry))) (now (frame .entry)) (now (frame .exit)) r ⌝ }
 {
     frame::write_data(
         l.settings.format,

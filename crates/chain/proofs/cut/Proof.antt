@@ -4,12 +4,13 @@ use mathlib.Core.Path.{sym, _∙_}
 use borrow.Author.Tests.{ne-eqb, eq-eqb}
 use Rattle.chain.specs.Cut.{cutOut}
 use Rattle.chain.proofs.Parts.{cutGate-facts}
+use native.Mathlib.Omega.{arith}
 use borrow.Author.Needs.{needs}
 use Rattle.chain.proofs.cut.Statement.{statement}
 use Rattle.chain.proofs.cut.Tie as tie
 
 give-requires : tie.Need-give-requires
-give-requires c κs = let f = cutGate-facts _ _ _ _ (sym (c .before .before .cut-gate .ensures) ∙ c .before .if1 .taken) in ((f .m-lo, f .m-hi), f .most, f .room, f .below)
+give-requires c κs = let f = cutGate-facts _ _ _ _ (sym (c .before .before .cut-gate .ensures) ∙ c .before .if1 .taken) in ((f .m-lo, f .m-hi), f .most, f .room, f .below, omega arith)
 
 returns : tie.Need-returns
 unfolding cutOut

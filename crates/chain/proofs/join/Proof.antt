@@ -4,12 +4,13 @@ use mathlib.Core.Path.{sym, _∙_}
 use borrow.Author.Tests.{ne-eqb, eq-eqb}
 use Rattle.chain.specs.Join.{joined}
 use Rattle.chain.proofs.Chains.{joinGate-facts}
+use native.Mathlib.Omega.{arith}
 use borrow.Author.Needs.{needs}
 use Rattle.chain.proofs.join.Statement.{statement}
 use Rattle.chain.proofs.join.Tie as tie
 
 join-part-requires : tie.Need-join-part-requires
-join-part-requires c κs = let f = joinGate-facts _ _ _ _ (sym (c .before .before .join-gate .ensures) ∙ c .before .if1 .taken) in (f .least, f .most, f .room)
+join-part-requires c κs = let f = joinGate-facts _ _ _ _ (sym (c .before .before .join-gate .ensures) ∙ c .before .if1 .taken) in (f .least, f .most, f .room, omega arith)
 
 returns : tie.Need-returns
 unfolding joined

@@ -5,7 +5,7 @@ use Rattle.chain.proofs.refuse.Statement.{statement}
 use Rattle.chain.proofs.refuse.Tie as tie
 
 returns : tie.Need-returns
-returns c = rw (← c .before .before .drops-chain .ensures, c .before .if1 .taken, c .fresh-joining .ensures, c .before .before .before .fault-of .ensures)
+returns c = rw (← c .before .before .drops-chain .ensures, c .before .if1 .taken, c .close .ensures, c .before .before .before .fault-of .ensures)
 
 returns-2 : tie.Need-returns-2
 returns-2 c = rw (← c .before .drops-chain .ensures, c .if1 .left, c .before .before .fault-of .ensures)
