@@ -32,6 +32,7 @@ fn step(table: &[u16; 256], seed: u16, byte: u8) -> u16
     table[i] ^ (seed >> 8)
 }
 
+// The checksum of the bytes.
 pub fn checksum(bytes: &[u8]) -> u16
     ensures { λ r. ⌜ r ≡ checksumOf (now (bytes .entry)) ⌝ }
 {

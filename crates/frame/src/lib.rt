@@ -135,6 +135,7 @@ pub fn hear(format: Format, frame: &[u8]) -> Heard
     Heard::Sum
 }
 
+// The number by which a frame so heard is refused, or 0 where it passes steps 1 to 4.
 pub fn refusal(h: Heard) -> u8
     ensures { λ r. ⌜ r ≡ refusalOf h ⌝ }
 {
@@ -178,6 +179,7 @@ fn seal(format: Format, frame: &mut [u8], covered: usize) -> u16
     (covered + 2) as u16
 }
 
+// Writes a data frame, and gives its length.
 pub fn write_data(
     format: Format,
     frame: &mut [u8],
@@ -203,6 +205,7 @@ fn write_control(format: Format, frame: &mut [u8], fctr: u8) -> u16
     seal(format, frame, 3)
 }
 
+// Writes a control ACK, and gives its length.
 pub fn write_ack(format: Format, frame: &mut [u8], acknowledged: u8) -> u16
     requires { ⌜ (acknowledged ≤ 3) × (5 ≤ length (now frame)) ⌝ }
     ensures { λ r. ⌜ Written (ackFrame format acknowledged) (now (frame .entry)) (now (frame .exit)) r ⌝ }
@@ -210,6 +213,7 @@ pub fn write_ack(format: Format, frame: &mut [u8], acknowledged: u8) -> u16
     write_control(format, frame, 0x80 + acknowledged)
 }
 
+// Writes a control NAK, and gives its length.
 pub fn write_nak(format: Format, frame: &mut [u8], acknowledged: u8) -> u16
     requires { ⌜ (acknowledged ≤ 3) × (5 ≤ length (now frame)) ⌝ }
     ensures { λ r. ⌜ Written (nakFrame format acknowledged) (now (frame .entry)) (now (frame .exit)) r ⌝ }
@@ -217,6 +221,7 @@ pub fn write_nak(format: Format, frame: &mut [u8], acknowledged: u8) -> u16
     write_control(format, frame, 0xA0 + acknowledged)
 }
 
+// Writes the reset frame, and gives its length.
 pub fn write_reset(format: Format, frame: &mut [u8]) -> u16
     requires { ⌜ 5 ≤ length (now frame) ⌝ }
     ensures { λ r. ⌜ Written (resetFrame format) (now (frame .entry)) (now (frame .exit)) r ⌝ }

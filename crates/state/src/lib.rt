@@ -43,12 +43,14 @@ pub struct Outcome {
 
 // ---- numbers and slots
 
+// The number of the last data frame that was delivered.
 pub fn last_correct(l: Link) -> u8
     ensures { λ r. ⌜ (r ≡ lastCorrect l) × (r ≤ 3) ⌝ }
 {
     (l.expected % 4 + 3) % 4
 }
 
+// How many packets have been sent after the one of this number.
 pub fn behind_number(l: Link, number: u8) -> u8
     requires { ⌜ number ≤ 3 ⌝ }
     ensures { λ r. ⌜ r ≡ behind l number ⌝ }
@@ -56,6 +58,7 @@ pub fn behind_number(l: Link, number: u8) -> u8
     (l.next % 4 + 7 - number) % 4
 }
 
+// The number of the packet that n have been sent after.
 pub fn sent_before(l: Link, n: u8) -> u8
     requires { ⌜ n ≤ 3 ⌝ }
     ensures { λ r. ⌜ (r ≡ sentBefore l n) × (r ≤ 3) ⌝ }
@@ -63,6 +66,7 @@ pub fn sent_before(l: Link, n: u8) -> u8
     (l.next % 4 + 3 - n) % 4
 }
 
+// The slot of the packet of this number.
 pub fn slot_of(l: Link, number: u8) -> usize
     requires { ⌜ 1 ≤ l .settings .window ⌝ }
     ensures { λ r. ⌜ (r ≡ slotOf l number) × (r < l .settings .window) ⌝ }
@@ -129,6 +133,7 @@ fn well_formed(l: Link) -> bool
 
 // ---- the gate
 
+// An answer with a state, and nothing else told.
 pub fn answer_only(l: Link, answer: u8) -> Outcome
     ensures { λ r. ⌜ r ≡ only l answer ⌝ }
 {
@@ -160,6 +165,7 @@ fn entry(l: Link, slots: usize, frame: usize) -> u8
     answer::OUT_OF_RANGE
 }
 
+// What every call but start and resynchronise refuses first: 1, 2 or 3, or 0.
 pub fn gate(l: Link, slots: usize, frame: usize) -> u8
     ensures { λ r. ⌜ r ≡ gateOf l slots frame ⌝ }
 {
@@ -175,6 +181,7 @@ pub fn gate(l: Link, slots: usize, frame: usize) -> u8
 
 // ---- fresh
 
+// A fresh end of these settings.
 pub fn fresh(s: Settings) -> Link
     ensures { λ r. ⌜ r ≡ freshOf s ⌝ }
 {
@@ -308,6 +315,7 @@ fn zero_state() -> Link
     })
 }
 
+// An end to begin with, fresh, or the state of zeros where it is refused.
 pub fn start(s: Settings, slots: &[u8]) -> Outcome
     ensures { λ r. ⌜ r ≡ started s (length (now (slots .entry))) ⌝ }
 {
@@ -328,6 +336,7 @@ fn send_reset(l: Link, slots: &[u8], frame: &mut [u8]) -> Outcome
     become_fresh(l, sent)
 }
 
+// Sends the reset frame and makes the end fresh, lost or not.
 pub fn resynchronise(l: Link, slots: &[u8], frame: &mut [u8], _ms: u32) -> Outcome
     ensures { λ r. ⌜ after r (now (slots .entry)) (now (frame .exit)) ≡ resynchronised l (now (slots .entry)) (now (frame .entry)) ⌝ }
 {
