@@ -6,7 +6,7 @@ use std::io::{self, BufRead, Write};
 use crate::answer;
 use crate::frame::{hear, Data, Heard, OVERHEAD};
 use crate::link::{elapsed, Outcome, State};
-use crate::script::{read, Command, Lines, Reading, Rig, Said};
+use crate::script::{read, ChainOutcome, Command, Lines, LinkCommand, Reading, Rig, Said};
 
 /// The answers that document 01 gives to each call.
 const ANSWERS: [(&str, &[u8]); 8] = [
@@ -80,9 +80,10 @@ pub fn count<R: BufRead>(input: R) -> io::Result<Tally> {
             Reading::Silent => {}
             Reading::Bad => tally.event("bad-line", true),
             Reading::Do(command) => {
-                let before = rig.state;
-                let said = rig.execute(&command);
-                tally.note(&before, &command, &said);
+                let before = rig.link.state;
+                if let Some(said) = rig.execute(&command) {
+                    tally.note(&before, &command, &said);
+                }
             }
         }
     }
@@ -133,32 +134,33 @@ impl Tally {
     }
 
     fn note(&mut self, before: &State, command: &Command<'_>, said: &Said) {
-        let number = match said {
-            Said::Nothing => return,
-            Said::Link(outcome) => outcome.answer,
-            Said::Join(joined) => joined.answer,
-            Said::Cut(piece) => piece.answer,
-        };
         if let Some(call) = command.call() {
-            *self.answers.entry((call, number)).or_default() += 1;
+            *self.answers.entry((call, said.answer())).or_default() += 1;
         }
-        match (*command, said) {
-            (Command::Take { frame, .. }, Said::Link(outcome)) => {
-                self.note_take(before, frame, outcome);
+        match (command, said) {
+            (Command::Link(command), Said::Link(outcome)) => {
+                self.note_link(before, command, outcome);
             }
-            (Command::Look { ms }, Said::Link(outcome)) => self.note_look(before, ms, outcome),
-            (Command::Submit { .. }, Said::Link(outcome)) => {
+            (_, Said::Chain(ChainOutcome::Join(joined))) => {
+                self.event("join-message", joined.length > 0);
+                self.event("join-fault-07", joined.fault == 7);
+            }
+            _ => {}
+        }
+    }
+
+    fn note_link(&mut self, before: &State, command: &LinkCommand<'_>, outcome: &Outcome) {
+        match *command {
+            LinkCommand::Take { frame, .. } => self.note_take(before, frame, outcome),
+            LinkCommand::Look { ms } => self.note_look(before, ms, outcome),
+            LinkCommand::Submit { .. } => {
                 let full = before.waiting >= before.settings.window;
                 let refused = outcome.answer == answer::PACKET_SIZE;
                 self.event("submit-4-when-full", refused && full);
             }
-            (Command::Resynchronise { .. }, Said::Link(outcome)) => {
+            LinkCommand::Resynchronise { .. } => {
                 let done = outcome.answer == answer::DONE;
                 self.event("resynchronise-lost", done && before.lost);
-            }
-            (_, Said::Join(joined)) => {
-                self.event("join-message", joined.length > 0);
-                self.event("join-fault-07", joined.fault == 7);
             }
             _ => {}
         }

@@ -4,13 +4,11 @@
 use std::io::{self, BufRead, Write};
 
 use crate::answer;
-use crate::chain::Piece;
 use crate::checksum::checksum;
 use crate::frame::{hear, Heard};
-use crate::link::Outcome;
 use crate::script::{
-    answer_lines, cut_numbers, hex, join_numbers, numbers, parse, Command, Ending, Fields, Line,
-    Rig, Said,
+    answer_lines, cut_numbers, hex, join_numbers, numbers, then_hex, then_numbers, ChainCommand,
+    ChainOutcome, ChainRig, Command, Ending, Fields, Line, LinkCommand, LinkRig, Rig,
 };
 
 const ARROW: &[u8] = b" -> ";
@@ -81,14 +79,14 @@ fn left_side(line: &[u8]) -> (&[u8], bool) {
 
 /// None for a bad line. The byte field, if any, is left in the scratch buffer.
 fn read_left<'a>(left: &[u8], scratch: &'a mut Vec<u8>) -> Option<Left<'a>> {
-    let mut fields = Fields::of(left);
+    let mut fields = Fields::of(left, scratch);
     let asked = match fields.next()? {
-        b"checksum" => Left::Checksum(fields.bytes(scratch)?),
+        b"checksum" => Left::Checksum(fields.bytes()?),
         b"hear" => Left::Hear {
             data_reg_len: fields.u16()?,
-            frame: fields.bytes(scratch)?,
+            frame: fields.bytes()?,
         },
-        _ => return parse(left, scratch).map(Left::Script),
+        word => Left::Script(Command::of(word, &mut fields)?),
     };
     fields.end()?;
     Some(asked)
@@ -102,12 +100,8 @@ fn right_side(asked: &Left<'_>, rig: &mut Rig, out: &mut Vec<u8>) {
             data_reg_len,
             frame,
         } => heard_side(hear(frame, *data_reg_len), out),
-        Left::Script(command) => match rig.execute(command) {
-            Said::Nothing => {}
-            Said::Link(outcome) => link_side(rig, command, &outcome, out),
-            Said::Join(joined) => join_numbers(&joined, out),
-            Said::Cut(piece) => cut_side(rig, &piece, out),
-        },
+        Left::Script(Command::Link(command)) => link_side(&mut rig.link, command, out),
+        Left::Script(Command::Chain(command)) => chain_side(&mut rig.chain, command, out),
     }
 }
 
@@ -148,30 +142,35 @@ fn words(heard: Heard) -> String {
     }
 }
 
-/// ANSWER SENT DELIVERED DROPPED
-fn link_side(rig: &Rig, command: &Command<'_>, outcome: &Outcome, out: &mut Vec<u8>) {
+/// ANSWER SENT DELIVERED DROPPED for calls
+fn link_side(rig: &mut LinkRig, command: &LinkCommand<'_>, out: &mut Vec<u8>) {
+    let Some(outcome) = rig.execute(command) else {
+        return;
+    };
     numbers(&[outcome.answer.into()], out);
-    out.push(b' ');
-    hex(first(rig.frame(), outcome.sent), out);
-    out.push(b' ');
-    hex(first(packet_bytes(command), outcome.delivered), out);
-    out.push(b' ');
-    numbers(&[outcome.dropped.into()], out);
+    then_hex(first(rig.frame(), outcome.sent), out);
+    then_hex(first(packet_bytes(command), outcome.delivered), out);
+    then_numbers(&[outcome.dropped.into()], out);
 }
 
 /// The bytes that a delivered packet is the beginning of; none for calls that deliver nothing.
-fn packet_bytes<'a>(command: &Command<'a>) -> &'a [u8] {
+fn packet_bytes<'a>(command: &LinkCommand<'a>) -> &'a [u8] {
     match *command {
-        Command::Take { frame, .. } => frame.get(PACKET_BEGIN..).unwrap_or_default(),
+        LinkCommand::Take { frame, .. } => frame.get(PACKET_BEGIN..).unwrap_or_default(),
         _ => &[],
     }
 }
 
-/// ANSWER LENGTH COUNT PACKET
-fn cut_side(rig: &Rig, piece: &Piece, out: &mut Vec<u8>) {
-    cut_numbers(piece, out);
-    out.push(b' ');
-    hex(first(rig.packet(), piece.length), out);
+/// ANSWER LENGTH FAULT OPEN JOINED for join, ANSWER LENGTH COUNT PACKET for cut
+fn chain_side(rig: &mut ChainRig, command: &ChainCommand<'_>, out: &mut Vec<u8>) {
+    match rig.execute(command) {
+        None => {}
+        Some(ChainOutcome::Join(joined)) => join_numbers(&joined, out),
+        Some(ChainOutcome::Cut(piece)) => {
+            cut_numbers(&piece, out);
+            then_hex(first(rig.packet(), piece.length), out);
+        }
+    }
 }
 
 /// No call tells more bytes than its buffer has.

@@ -11,7 +11,7 @@ use std::io::{self, Write};
 
 use scribe::Scribe;
 
-use crate::script::Command;
+use crate::script::{ChainCommand, LinkCommand};
 
 type Scene = fn(&mut Scribe);
 
@@ -48,14 +48,14 @@ pub fn generate<W: Write>(seed: u64, calls: u64, out: &mut W) -> io::Result<()> 
 /// Calls on what a script begins with: a state of zeros, empty buffers, no room.
 fn opening(scribe: &mut Scribe) {
     scribe.write_line(b"# a generated script");
-    scribe.call(&Command::Look { ms: 0 });
-    scribe.call(&Command::Resynchronise { ms: u32::MAX });
+    scribe.call(LinkCommand::Look { ms: 0 });
+    scribe.call(LinkCommand::Resynchronise { ms: u32::MAX });
     let limit = 11;
-    scribe.call(&Command::Join {
+    scribe.call(ChainCommand::Join {
         limit,
         packet: &[0, 1],
     });
-    scribe.call(&Command::Cut {
+    scribe.call(ChainCommand::Cut {
         limit,
         index: 0,
         buffer: 0,

@@ -1,15 +1,19 @@
 //! The rig's script format: lines in, calls made, lines out.
 
+mod buffers;
+mod chain_commands;
 mod command;
+mod fields;
 mod lines;
-mod print;
+mod link_commands;
 mod rig;
 
-pub(crate) use command::Fields;
+pub(crate) use chain_commands::{cut_numbers, join_numbers};
+pub use chain_commands::{ChainCommand, ChainOutcome, ChainRig};
 pub use command::{parse, write, Command};
+pub(crate) use fields::{hex, numbers, then_hex, then_numbers, Fields};
 pub use lines::{Line, Lines, LINE_LIMIT};
-pub use print::print;
-pub(crate) use print::{cut_numbers, hex, join_numbers, numbers};
+pub use link_commands::{LinkCommand, LinkRig};
 pub use rig::{Rig, Said};
 
 use std::io::{self, BufRead, Write};
@@ -74,8 +78,9 @@ pub fn replay<R: BufRead, W: Write>(input: R, output: &mut W) -> io::Result<()> 
             Reading::Silent => {}
             Reading::Bad => writeln!(text, "bad line {number}")?,
             Reading::Do(command) => {
-                let said = rig.execute(&command);
-                print(&rig, &said, text);
+                if let Some(said) = rig.execute(&command) {
+                    rig.print(&said, text);
+                }
             }
         }
         Ok(Ending::Own)

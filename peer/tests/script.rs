@@ -3,7 +3,7 @@
 use peer::chain::Joining;
 use peer::link::{Settings, State};
 use peer::random::Random;
-use peer::script::{parse, replay, write, Command};
+use peer::script::{parse, replay, write, ChainCommand, Command, LinkCommand};
 
 fn replayed(script: &[u8]) -> String {
     let mut out = Vec::new();
@@ -425,56 +425,72 @@ const JOINING: Joining = Joining {
 };
 
 const WRITTEN: [(&str, Option<&str>, Command<'static>); 12] = [
-    ("lend 1 2", None, Command::Lend { slots: 1, frame: 2 }),
+    (
+        "lend 1 2",
+        None,
+        Command::Link(LinkCommand::Lend { slots: 1, frame: 2 }),
+    ),
     (
         "state 1 2 3 4 5 6 7 8 9 10 11 12 13 14 1 16 0 1",
         None,
-        Command::State(STATE),
+        Command::Link(LinkCommand::State(STATE)),
     ),
-    ("room 7", None, Command::Room(7)),
-    ("joining 1 2", None, Command::Joining(JOINING)),
-    ("start 1 2 3 4 5", Some("start"), Command::Start(SETTINGS)),
+    ("room 7", None, Command::Chain(ChainCommand::Room(7))),
+    (
+        "joining 1 2",
+        None,
+        Command::Chain(ChainCommand::Joining(JOINING)),
+    ),
+    (
+        "start 1 2 3 4 5",
+        Some("start"),
+        Command::Link(LinkCommand::Start(SETTINGS)),
+    ),
     (
         "submit 1 0AFF",
         Some("submit"),
-        Command::Submit {
+        Command::Link(LinkCommand::Submit {
             ms: 1,
             packet: &[0x0A, 0xFF],
-        },
+        }),
     ),
     (
         "take 2 -",
         Some("take"),
-        Command::Take { ms: 2, frame: &[] },
+        Command::Link(LinkCommand::Take { ms: 2, frame: &[] }),
     ),
-    ("look 3", Some("look"), Command::Look { ms: 3 }),
+    (
+        "look 3",
+        Some("look"),
+        Command::Link(LinkCommand::Look { ms: 3 }),
+    ),
     (
         "acknowledge 4",
         Some("acknowledge"),
-        Command::Acknowledge { ms: 4 },
+        Command::Link(LinkCommand::Acknowledge { ms: 4 }),
     ),
     (
         "resynchronise 4294967295",
         Some("resynchronise"),
-        Command::Resynchronise { ms: u32::MAX },
+        Command::Link(LinkCommand::Resynchronise { ms: u32::MAX }),
     ),
     (
         "join 5 00",
         Some("join"),
-        Command::Join {
+        Command::Chain(ChainCommand::Join {
             limit: 5,
             packet: &[0],
-        },
+        }),
     ),
     (
         "cut 6 7 8 01",
         Some("cut"),
-        Command::Cut {
+        Command::Chain(ChainCommand::Cut {
             limit: 6,
             index: 7,
             buffer: 8,
             message: &[1],
-        },
+        }),
     ),
 ];
 

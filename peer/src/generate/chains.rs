@@ -3,7 +3,7 @@
 use super::scribe::Scribe;
 use crate::chain::{Joining, MESSAGE_LIMIT};
 use crate::random::Random;
-use crate::script::{Command, Said};
+use crate::script::{ChainCommand, ChainOutcome, Said};
 
 /// A packet limit m, now and then just outside its range.
 fn any_limit(random: &mut Random) -> u16 {
@@ -71,7 +71,7 @@ pub fn cuts(scribe: &mut Scribe) {
     for _ in 0..=scribe.random.below(times) {
         let index = any_index(&mut scribe.random, count);
         let buffer = any_buffer(&mut scribe.random, limit);
-        scribe.call(&Command::Cut {
+        scribe.call(ChainCommand::Cut {
             limit,
             index,
             buffer,
@@ -89,7 +89,7 @@ fn room(scribe: &mut Scribe) {
         5 => 100,
         _ => 4096,
     };
-    scribe.set(&Command::Room(size));
+    scribe.set(ChainCommand::Room(size));
 }
 
 fn any_joining(random: &mut Random, limit: u16) -> Joining {
@@ -116,20 +116,20 @@ pub fn joins(scribe: &mut Scribe) {
         0 => Joining::default(),
         _ => any_joining(&mut scribe.random, limit),
     };
-    scribe.set(&Command::Joining(joining));
+    scribe.set(ChainCommand::Joining(joining));
     for _ in 0..scribe.random.between(3, 12) {
         if scribe.random.percent(12) {
             let joining = any_joining(&mut scribe.random, limit);
-            scribe.set(&Command::Joining(joining));
+            scribe.set(ChainCommand::Joining(joining));
         }
-        let open = scribe.rig.joining.open;
+        let open = scribe.rig.chain.joining.open;
         let packet = match scribe.random.below(8) {
             0..=3 => likely(&mut scribe.random, limit, open),
             4 => secured(&mut scribe.random, limit),
             5 => almost(&mut scribe.random, limit, open),
             _ => unlikely(&mut scribe.random, limit),
         };
-        scribe.call(&Command::Join {
+        scribe.call(ChainCommand::Join {
             limit,
             packet: &packet,
         });
@@ -204,24 +204,24 @@ pub fn round_trip(scribe: &mut Scribe) {
     let limit = scribe.random.u16_between(11, 40);
     let size = scribe.random.u16_between(1, 6 * limit);
     let message = scribe.random.bytes(size.into());
-    scribe.set(&Command::Room(MESSAGE_LIMIT));
-    scribe.set(&Command::Joining(Joining::default()));
+    scribe.set(ChainCommand::Room(MESSAGE_LIMIT));
+    scribe.set(ChainCommand::Joining(Joining::default()));
     for index in 0..u32::from(size.div_ceil(limit - 1)) {
-        let cut = Command::Cut {
+        let cut = ChainCommand::Cut {
             limit,
             index,
             buffer: limit,
             message: &message,
         };
-        let Said::Cut(piece) = scribe.call(&cut) else {
+        let Some(Said::Chain(ChainOutcome::Cut(piece))) = scribe.call(cut) else {
             return;
         };
-        let whole = scribe.rig.packet();
+        let whole = scribe.rig.chain.packet();
         let packet = whole
             .get(..piece.length.into())
             .unwrap_or_default()
             .to_vec();
-        scribe.call(&Command::Join {
+        scribe.call(ChainCommand::Join {
             limit,
             packet: &packet,
         });

@@ -8,7 +8,7 @@ use super::{frames, states};
 use crate::bus::{self, End};
 use crate::link::{Outcome, Settings};
 use crate::random::Random;
-use crate::script::Command;
+use crate::script::LinkCommand;
 
 #[derive(Clone, Copy)]
 enum Move {
@@ -63,7 +63,7 @@ impl Line {
     fn open(scribe: &mut Scribe) -> Line {
         let settings = states::settings(&mut scribe.random);
         states::lend_enough(scribe, &settings);
-        scribe.call(&Command::Start(settings));
+        scribe.call(LinkCommand::Start(settings));
         Line {
             settings,
             far: End::start(settings, vec![0; settings.slots_need()]),
@@ -73,11 +73,11 @@ impl Line {
         }
     }
 
-    fn near_call(&mut self, scribe: &mut Scribe, command: &Command<'_>) {
+    fn near_call(&mut self, scribe: &mut Scribe, command: LinkCommand<'_>) {
         let Some(outcome) = scribe.link_call(command) else {
             return;
         };
-        if let Some(frame) = bus::sent(scribe.rig.frame(), &outcome) {
+        if let Some(frame) = bus::sent(scribe.rig.link.frame(), &outcome) {
             self.to_far.push_back(frame.to_vec());
         }
     }
@@ -94,11 +94,11 @@ impl Line {
             Move::NearSubmit => self.near_submit(scribe),
             Move::CarryToNear => self.carry_to_near(scribe),
             Move::NearLook => self.near_look(scribe),
-            Move::NearAcknowledge => self.near_call(scribe, &Command::Acknowledge { ms }),
-            Move::NearResynchronise => self.near_call(scribe, &Command::Resynchronise { ms }),
+            Move::NearAcknowledge => self.near_call(scribe, LinkCommand::Acknowledge { ms }),
+            Move::NearResynchronise => self.near_call(scribe, LinkCommand::Resynchronise { ms }),
             Move::Stray => {
-                let frame = frames::any_frame(&mut scribe.random, &scribe.rig.state);
-                self.near_call(scribe, &Command::Take { ms, frame: &frame });
+                let frame = frames::any_frame(&mut scribe.random, &scribe.rig.link.state);
+                self.near_call(scribe, LinkCommand::Take { ms, frame: &frame });
             }
             Move::Wait => self.wait(&mut scribe.random),
             _ => self.far_step(&mut scribe.random, chosen),
@@ -160,7 +160,7 @@ impl Line {
 
     /// Mostly where the window has a place, else few submits would be taken.
     fn near_submit(&mut self, scribe: &mut Scribe) {
-        let full = scribe.rig.state.waiting >= self.settings.window;
+        let full = scribe.rig.link.state.waiting >= self.settings.window;
         if full && scribe.random.percent(80) {
             return;
         }
@@ -168,7 +168,7 @@ impl Line {
         let ms = self.clock;
         self.near_call(
             scribe,
-            &Command::Submit {
+            LinkCommand::Submit {
                 ms,
                 packet: &packet,
             },
@@ -181,13 +181,13 @@ impl Line {
             self.wait(&mut scribe.random);
         }
         let ms = self.clock;
-        self.near_call(scribe, &Command::Look { ms });
+        self.near_call(scribe, LinkCommand::Look { ms });
     }
 
     fn carry_to_near(&mut self, scribe: &mut Scribe) {
         let ms = self.clock;
         match self.to_near.pop_front() {
-            Some(frame) => self.near_call(scribe, &Command::Take { ms, frame: &frame }),
+            Some(frame) => self.near_call(scribe, LinkCommand::Take { ms, frame: &frame }),
             None => self.step(scribe, Move::FarSubmit),
         }
     }
@@ -229,7 +229,7 @@ pub fn two_ends(scribe: &mut Scribe) {
         if !scribe.calls_left() {
             return;
         }
-        let chosen = if scribe.rig.state.lost && scribe.random.percent(25) {
+        let chosen = if scribe.rig.link.state.lost && scribe.random.percent(25) {
             Move::NearResynchronise
         } else {
             let weights = MOVES.iter().map(|(_, weights)| weights[kind]);
@@ -254,7 +254,7 @@ pub fn hostile(scribe: &mut Scribe) {
             17 => Move::NearAcknowledge,
             _ => Move::Wait,
         };
-        let chosen = match scribe.rig.state.lost {
+        let chosen = match scribe.rig.link.state.lost {
             true if scribe.random.percent(40) => Move::NearResynchronise,
             _ => chosen,
         };

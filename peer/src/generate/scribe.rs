@@ -6,7 +6,7 @@ use std::mem;
 use super::noise;
 use crate::link::Outcome;
 use crate::random::Random;
-use crate::script::{self, Command, Rig, Said};
+use crate::script::{self, Command, LinkCommand, Rig, Said};
 
 pub struct Scribe {
     pub random: Random,
@@ -39,28 +39,30 @@ impl Scribe {
     }
 
     /// A line that is no call: lend, state, room, joining.
-    pub fn set(&mut self, command: &Command<'_>) {
-        self.rig.execute(command);
-        self.write_command(command);
+    pub fn set<'a>(&mut self, command: impl Into<Command<'a>>) {
+        let command = command.into();
+        self.rig.execute(&command);
+        self.write_command(&command);
     }
 
     /// One of the eight calls. Once all calls are written the rest of a scene falls away.
-    pub fn call(&mut self, command: &Command<'_>) -> Said {
+    pub fn call<'a>(&mut self, command: impl Into<Command<'a>>) -> Option<Said> {
         if self.left == 0 {
-            return Said::Nothing;
+            return None;
         }
+        let command = command.into();
         self.left -= 1;
         if self.random.below(60) == 0 {
             let line = noise::line(&mut self.random);
             self.write_line(&line);
         }
-        self.write_command(command);
-        self.rig.execute(command)
+        self.write_command(&command);
+        self.rig.execute(&command)
     }
 
-    pub fn link_call(&mut self, command: &Command<'_>) -> Option<Outcome> {
+    pub fn link_call(&mut self, command: LinkCommand<'_>) -> Option<Outcome> {
         match self.call(command) {
-            Said::Link(outcome) => Some(outcome),
+            Some(Said::Link(outcome)) => Some(outcome),
             _ => None,
         }
     }

@@ -5,7 +5,7 @@ use super::frames;
 use super::scribe::Scribe;
 use crate::link::{Settings, State};
 use crate::random::Random;
-use crate::script::Command;
+use crate::script::LinkCommand;
 
 /// Mostly a small D, so that lines stay short.
 pub fn settings(random: &mut Random) -> Settings {
@@ -60,7 +60,7 @@ pub fn lend_enough(scribe: &mut Scribe, settings: &Settings) {
 
 fn lend(scribe: &mut Scribe, slots: usize, frame: usize) {
     let size = |wanted: usize| wanted.min(4096) as u16;
-    scribe.set(&Command::Lend {
+    scribe.set(LinkCommand::Lend {
         slots: size(slots),
         frame: size(frame),
     });
@@ -134,7 +134,7 @@ pub fn arbitrary(scribe: &mut Scribe) {
         _ => well_formed(&mut scribe.random, settings, now),
     };
     lend_enough(scribe, &settings);
-    scribe.set(&Command::State(state));
+    scribe.set(LinkCommand::State(state));
     for _ in 0..=scribe.random.below(6) {
         let later = scribe.random.pick([0, 0, 1, u32::MAX]);
         any_call(scribe, now.wrapping_add(later));
@@ -143,27 +143,27 @@ pub fn arbitrary(scribe: &mut Scribe) {
 
 /// One of the five calls that take a millisecond.
 pub fn any_call(scribe: &mut Scribe, ms: u32) {
-    let state = scribe.rig.state;
+    let state = scribe.rig.link.state;
     match scribe.random.below(20) {
         0..=4 => {
             let packet = any_packet(&mut scribe.random, &state);
-            scribe.call(&Command::Submit {
+            scribe.call(LinkCommand::Submit {
                 ms,
                 packet: &packet,
             });
         }
         5..=11 => {
             let frame = frames::any_frame(&mut scribe.random, &state);
-            scribe.call(&Command::Take { ms, frame: &frame });
+            scribe.call(LinkCommand::Take { ms, frame: &frame });
         }
         12..=16 => {
-            scribe.call(&Command::Look { ms });
+            scribe.call(LinkCommand::Look { ms });
         }
         17..=18 => {
-            scribe.call(&Command::Acknowledge { ms });
+            scribe.call(LinkCommand::Acknowledge { ms });
         }
         _ => {
-            scribe.call(&Command::Resynchronise { ms });
+            scribe.call(LinkCommand::Resynchronise { ms });
         }
     }
 }
@@ -231,7 +231,7 @@ pub fn ill_formed(scribe: &mut Scribe) {
         0 => lend(scribe, settings.slots_need() - 1, settings.frame_need() - 1),
         _ => lend_enough(scribe, &settings),
     }
-    scribe.set(&Command::State(state));
+    scribe.set(LinkCommand::State(state));
     for _ in 0..=scribe.random.below(3) {
         any_call(scribe, now);
     }
@@ -264,7 +264,7 @@ pub fn starts(scribe: &mut Scribe) {
     };
     let frame = scribe.random.pick([0, 15, 16, 1024.min(need)]);
     lend(scribe, slots, frame);
-    scribe.call(&Command::Start(settings));
+    scribe.call(LinkCommand::Start(settings));
     if scribe.random.percent(60) {
         any_call(scribe, 7);
     }
@@ -289,7 +289,7 @@ pub fn short_buffers(scribe: &mut Scribe) {
         (slots - 1, frame + 1),
     ]);
     lend(scribe, slots, frame);
-    scribe.set(&Command::State(state));
+    scribe.set(LinkCommand::State(state));
     for _ in 0..=scribe.random.below(3) {
         any_call(scribe, now);
     }
@@ -303,10 +303,10 @@ pub fn timers(scribe: &mut Scribe) {
     let mut state = well_formed(&mut scribe.random, settings, now);
     state.lost = false;
     lend_enough(scribe, &settings);
-    scribe.set(&Command::State(state));
+    scribe.set(LinkCommand::State(state));
     let mut ms = now;
     for _ in 0..=scribe.random.below(6) {
-        scribe.call(&Command::Look { ms });
+        scribe.call(LinkCommand::Look { ms });
         let timeout = u32::from(settings.transmit_timeout);
         let step = scribe.random.pick([0, 0, 1, timeout - 1, timeout]);
         ms = ms.wrapping_add(step);
