@@ -13,6 +13,7 @@ use Rattle.state.specs.declared.Settings.{Settings}
 use Rattle.state.specs.declared.Link.{Link}
 use Rattle.state.specs.declared.Outcome.{Outcome}
 use Rattle.state.specs.Bounds.{inRange, slotsNeed, frameNeed}
+use Rattle.state.specs.Fields.{withStarts, withAckstart, withRepeated, withExpected, withWaiting, withAcking, withNakmark, withLost}
 use Rattle.state.specs.State.{freshOf}
 use Rattle.state.specs.Gate.{After, only, gated, entryOf, gateOf}
 use Rattle.state.specs.Calls.{zeros, started, resetSent, resynchronised}
@@ -23,19 +24,9 @@ use Rattle.state.proofs.Facts.{inRange-facts, wellFormed-facts, facts-w
 
 -- all that a call but submit and a reset may change
 abbrev pub changed : Link → List ℕ → List ℕ → ℕ → ℕ → ℕ → Bool → Bool → Bool → Link
-changed l starts repeated ackstart expected waiting acking nakmark lost = record {
-  settings = l .settings;
-  starts = starts;
-  ackstart = ackstart;
-  lengths = l .lengths;
-  repeated = repeated;
-  next = l .next;
-  expected = expected;
-  waiting = waiting;
-  acking = acking;
-  nakmark = nakmark;
-  lost = lost;
-}
+changed l starts repeated ackstart expected waiting acking nakmark lost =
+    let timed : Link = withAckstart (withRepeated (withStarts l starts) repeated) ackstart in
+    withLost (withNakmark (withAcking (withWaiting (withExpected timed expected) waiting) acking) nakmark) lost
 
 pub changed-sound : (l : Link) (starts repeated : List ℕ) (ackstart expected waiting : ℕ) (acking nakmark lost : Bool) → Sound l
     → length starts ≡ 2 → length repeated ≡ 2 → expected ≤ 3 → waiting ≤ l .waiting → ((i : ℕ) → i < 2 → getD repeated i 0 ≤ l .settings .repeats)
