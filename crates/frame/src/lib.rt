@@ -2,7 +2,7 @@
 use base::answer;
 use base::buffer;
 ghost use mathlib.Core.Path.{_≡_};
-ghost use mathlib.Core.List.{[], _∷_};
+ghost use mathlib.Core.List.{[], _∷_, _++_};
 ghost use Prim.Native.Nat.{_+_, _≤_, _<_};
 ghost use lib.ListN.{length, take};
 ghost use Rattle.base.specs.Buffer.{put};
@@ -179,6 +179,15 @@ fn seal(format: Format, frame: &mut [u8], covered: usize) -> u16
     (covered + 2) as u16
 }
 
+// All of a frame but its FCS.
+fn write_body(frame: &mut [u8], fctr: u8, packet: &[u8])
+    requires { ⌜ (length (now packet) + 3 ≤ length (now frame)) × (length (now packet) < 65536) ⌝ }
+    ensures { λ _. ⌜ now (frame .exit) ≡ put (now (frame .entry)) 0 (fctr ∷ (lenBytes (length (now (packet .entry))) ++ now (packet .entry))) ⌝ }
+{
+    put_head(frame, fctr, packet.len() as u16);
+    buffer::copy_at(frame, 3, packet);
+}
+
 // Writes a data frame, and gives its length.
 pub fn write_data(
     format: Format,
@@ -191,10 +200,8 @@ pub fn write_data(
     requires { ⌜ (length (now packet) + 5 ≤ length (now frame)) × (length (now packet) + 5 < 65536) ⌝ }
     ensures { λ r. ⌜ Written (dataFrame format number acknowledged (now (packet .entry))) (now (frame .entry)) (now (frame .exit)) r ⌝ }
 {
-    let len = packet.len();
-    put_head(frame, number * 4 + acknowledged, len as u16);
-    buffer::copy_at(frame, 3, packet);
-    seal(format, frame, 3 + len)
+    write_body(frame, number * 4 + acknowledged, packet);
+    seal(format, frame, 3 + packet.len())
 }
 
 fn write_control(format: Format, frame: &mut [u8], fctr: u8) -> u16
