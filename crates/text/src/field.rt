@@ -13,17 +13,21 @@ pub const FIELDS: usize = 18;
 // A field's number; of a byte field how many bytes; 0 of a field that is absent.
 pub type Values = [u64; FIELDS];
 
-// Stands for a field's largest number where the field is bytes.
-pub const BYTES: u64 = u64::MAX;
+// A field's largest number; BYTES where the field is bytes.
+pub const FLAG: u64 = 1;
 
-// No field takes a larger number.
-const LARGEST: u64 = 4294967295;
+pub const U8: u64 = 255;
+
+pub const U16: u64 = 65535;
+
+pub const U32: u64 = 4294967295;
+
+pub const BYTES: u64 = u64::MAX;
 
 pub const SPACE: u8 = 32;
 
 const DASH: u8 = 45;
 
-// What pair_at answers where there is no byte.
 const NO_BYTE: u16 = 256;
 
 // The number, or how many bytes; and the index past the field.
@@ -33,17 +37,10 @@ pub struct Field {
     pub good: bool,
 }
 
+// good: the line has the fields of its command and nothing else.
 pub struct Fields {
     pub values: Values,
     pub good: bool,
-}
-
-fn missing() -> Field {
-    Field {
-        value: 0,
-        end: 0,
-        good: false,
-    }
 }
 
 // ---- numbers
@@ -61,11 +58,11 @@ fn digit(byte: u8) -> u64
     (byte - 48) as u64
 }
 
-// A number that is too large for every field stays so, whatever digits follow.
+// A number above U32 is too large for every field and stays so, whatever digits follow.
 fn appended(value: u64, digit: u64) -> u64
     requires { ⌜ digit ≤ 9 ⌝ }
 {
-    if LARGEST < value {
+    if U32 < value {
         return value;
     }
     value * 10 + digit
@@ -95,40 +92,50 @@ fn number(line: &[u8], from: usize, largest: u64) -> Field {
 fn nibble(byte: u8) -> u8
     ensures { λ r. ⌜ r ≤ 16 ⌝ }
 {
-    match byte {
-        48..=57 => byte - 48,
-        65..=70 => byte - 55,
-        97..=102 => byte - 87,
-        _ => 16,
+    if byte < 48 {
+        return 16;
     }
+    if byte < 58 {
+        return byte - 48;
+    }
+    if byte < 65 {
+        return 16;
+    }
+    if byte < 71 {
+        return byte - 55;
+    }
+    if byte < 97 {
+        return 16;
+    }
+    if byte < 103 {
+        return byte - 87;
+    }
+    16
 }
 
-fn pair(high: u8, low: u8) -> u16
-    ensures { λ r. ⌜ r ≤ 256 ⌝ }
+fn nibble_at(line: &[u8], at: usize) -> u8
+    ensures { λ r. ⌜ r ≤ 16 ⌝ }
 {
-    let h = nibble(high);
-    let l = nibble(low);
-    if 15 < h {
-        return NO_BYTE;
+    if at < line.len() {
+        return nibble(line[at]);
     }
-    if 15 < l {
-        return NO_BYTE;
-    }
-    h as u16 * 16 + l as u16
+    16
 }
 
+// The byte of two digits, or more than 255 where there are none.
 fn pair_at(line: &[u8], at: usize) -> u16
     requires { ⌜ at < length (now line) ⌝ }
-    ensures { λ r. ⌜ r ≤ 256 ⌝ }
 {
-    if line.len() - at < 2 {
+    let high = nibble_at(line, at);
+    let low = nibble_at(line, at + 1);
+    if (15 < high) | (15 < low) {
         return NO_BYTE;
     }
-    pair(line[at], line[at + 1])
+    high as u16 * 16 + low as u16
 }
 
 // A digit that is left over, or a byte too many, is not passed: then neither a space nor the line's end follows.
-fn digit_pairs(line: &[u8], from: usize, bytes: &mut Bytes) -> Field {
+fn digit_pairs(line: &[u8], from: usize, bytes: &mut [u8]) -> Field {
     let mut n: usize = 0;
     let mut i = from;
     while i < line.len() {
@@ -136,7 +143,7 @@ fn digit_pairs(line: &[u8], from: usize, bytes: &mut Bytes) -> Field {
         if 255 < byte {
             break;
         }
-        if n == MOST_BYTES {
+        if n == bytes.len() {
             break;
         }
         bytes[n] = byte as u8;
@@ -150,57 +157,63 @@ fn digit_pairs(line: &[u8], from: usize, bytes: &mut Bytes) -> Field {
     }
 }
 
-fn some_bytes(line: &[u8], from: usize, bytes: &mut Bytes) -> Field {
-    if from < line.len() {
-        if line[from] == DASH {
-            return Field {
-                value: 0,
-                end: from + 1,
-                good: true,
-            };
+// The index past a dash at `at`, if there is one.
+fn past_dash(line: &[u8], at: usize) -> usize {
+    if at < line.len() {
+        if line[at] == DASH {
+            return at + 1;
         }
+    }
+    at
+}
+
+fn some_bytes(line: &[u8], from: usize, bytes: &mut [u8]) -> Field {
+    let end = past_dash(line, from);
+    if from < end {
+        return Field {
+            value: 0,
+            end,
+            good: true,
+        };
     }
     digit_pairs(line, from, bytes)
 }
 
-// The field behind the space at `at`.
-fn read(line: &[u8], at: usize, largest: u64, bytes: &mut Bytes) -> Field {
-    if line.len() <= at {
-        return missing();
-    }
-    if line[at] != SPACE {
-        return missing();
-    }
-    if largest == BYTES {
-        return some_bytes(line, at + 1, bytes);
-    }
-    number(line, at + 1, largest)
-}
-
 // ---- all fields of a line
 
-// Field n; there is none past the last that has a largest number.
-fn field_at(line: &[u8], at: usize, largest: &[u64], n: usize, bytes: &mut Bytes) -> Field {
-    if n < largest.len() {
-        return read(line, at, largest[n], bytes);
+fn read(line: &[u8], from: usize, largest: u64, bytes: &mut [u8]) -> Field {
+    if largest == BYTES {
+        return some_bytes(line, from, bytes);
     }
-    missing()
+    number(line, from, largest)
 }
 
-// The fields from `at` to the line's end, each up to its largest number. There may be fewer, but not under `least`.
-pub fn read_all(
-    line: &[u8],
-    at: usize,
-    largest: &[u64],
-    least: usize,
-    bytes: &mut Bytes,
-) -> Fields {
+// Where the field behind the space at `at` begins; the line's end, where no field is good, if there is no space or no field is left.
+fn start_of(line: &[u8], at: usize, is_left: bool) -> usize {
+    if at < line.len() {
+        if (line[at] == SPACE) & is_left {
+            return at + 1;
+        }
+    }
+    line.len()
+}
+
+fn largest_of(largest: &[u64], n: usize) -> u64 {
+    if n < largest.len() {
+        return largest[n];
+    }
+    0
+}
+
+// The fields from `at` to the line's end, each up to its largest number; of a byte field at most as many bytes as are lent. There may be fewer, but not under `least`.
+pub fn read_all(line: &[u8], at: usize, largest: &[u64], least: usize, bytes: &mut [u8]) -> Fields {
     let mut values = [0u64; FIELDS];
     let mut next = at;
     let mut good = true;
     let mut n: usize = 0;
     while n < FIELDS && good && next < line.len() {
-        let f = field_at(line, next, largest, n, bytes);
+        let from = start_of(line, next, n < largest.len());
+        let f = read(line, from, largest_of(largest, n), bytes);
         values[n] = f.value;
         next = f.end;
         good = f.good;
@@ -212,6 +225,8 @@ pub fn read_all(
     }
 }
 
+// ---- words
+
 // Where the line's first word ends.
 pub fn word_end(line: &[u8]) -> usize
     ensures { λ r. ⌜ r ≤ length (now (line .entry)) ⌝ }
@@ -219,16 +234,34 @@ pub fn word_end(line: &[u8]) -> usize
     bytes::scan::find(line, 0, line.len(), SPACE)
 }
 
+// Which of the words, apart by one space each, this one is, from 0 on; none of them is how many they are.
+pub fn place_of(word: &[u8], words: &[u8]) -> usize {
+    let mut n: usize = 0;
+    let mut i: usize = 0;
+    while i < words.len() {
+        let end = bytes::scan::find(words, i, words.len(), SPACE);
+        if check::same(word, &words[i..end]) {
+            return n;
+        }
+        i = end + 1;
+        n += 1;
+    }
+    n
+}
+
 // ---- numbers as wide as the link's
 
-pub fn small(value: u64) -> u8 {
+// The number of a field whose largest is U8.
+pub fn as_u8(value: u64) -> u8 {
     (value % 256) as u8
 }
 
-pub fn middle(value: u64) -> u16 {
+// The number of a field whose largest is U16.
+pub fn as_u16(value: u64) -> u16 {
     (value % 65536) as u16
 }
 
-pub fn wide(value: u64) -> u32 {
+// The number of a field whose largest is U32.
+pub fn as_u32(value: u64) -> u32 {
     (value % 4294967296) as u32
 }

@@ -1,38 +1,52 @@
 // The name of a frame, as an end hears it.
-use crate::lay::Output;
-use crate::lay::add;
-use crate::lay::add_digits;
+use crate::lay::add_chosen;
 use frame::Heard;
 
-// A number behind words; their space is theirs to bring.
-pub fn add_counted(out: &mut Output, at: usize, word: &[u8], number: u64) -> usize {
-    let a = add(out, at, word);
-    add_digits(out, a, number)
+// A place in the list of names, and the numbers that stand in the name.
+struct Name {
+    place: usize,
+    numbers: [u64; 2],
 }
 
-fn add_data(out: &mut Output, at: usize, number: u8, nak: bool, acknowledged: u8) -> usize {
-    let a = add_counted(out, at, b"data ", number as u64);
-    if nak {
-        return add_counted(out, a, b" nak ", acknowledged as u64);
+fn named(place: usize, first: u8, second: u8) -> Name {
+    Name {
+        place,
+        numbers: [first as u64, second as u64],
     }
-    add_counted(out, a, b" ack ", acknowledged as u64)
 }
 
-pub fn add_heard(out: &mut Output, at: usize, h: Heard) -> usize {
+fn data_place(nak: bool) -> usize {
+    if nak { 9 } else { 8 }
+}
+
+fn name_of(h: Heard) -> Name {
     match h {
-        Heard::Size => add(out, at, b"size"),
-        Heard::Sum => add(out, at, b"checksum"),
-        Heard::Code => add(out, at, b"code"),
-        Heard::ControlSize => add(out, at, b"control"),
-        Heard::Length => add(out, at, b"length"),
-        Heard::Reset => add(out, at, b"reset"),
-        Heard::Ack(k) => add_counted(out, at, b"ack ", k as u64),
-        Heard::Nak(k) => add_counted(out, at, b"nak ", k as u64),
+        Heard::Size => named(0, 0, 0),
+        Heard::Sum => named(1, 0, 0),
+        Heard::Code => named(2, 0, 0),
+        Heard::ControlSize => named(3, 0, 0),
+        Heard::Length => named(4, 0, 0),
+        Heard::Reset => named(5, 0, 0),
+        Heard::Ack(k) => named(6, k, 0),
+        Heard::Nak(k) => named(7, k, 0),
         Heard::Data {
             number,
             nak,
             acknowledged,
             length: _,
-        } => add_data(out, at, number, nak, acknowledged),
+        } => named(data_place(nak), number, acknowledged),
     }
+}
+
+// Lays what was heard: `data 0 ack 3`, `ack 0`, `nak 0`, `reset`, or which of steps 1 to 4 refuses.
+pub fn add_heard(out: &mut [u8], at: usize, h: Heard) -> usize {
+    let n = name_of(h);
+    let numbers = n.numbers;
+    add_chosen(
+        out,
+        at,
+        b"size|checksum|code|control|length|reset|ack %|nak %|data % ack %|data % nak %",
+        n.place,
+        &numbers,
+    )
 }

@@ -1,63 +1,123 @@
-// Text for standard output: it is laid into a buffer, which is written out before a line might not fit.
+// Text for standard output. It is laid into a lent array from an index on, and each function gives the index past what it laid. Where the
+// array is full, what was laid is written and laying goes on at its front: nothing is left out, however short the array.
+use crate::least;
 use libc::STDOUT_FILENO;
-ghost use Prim.Native.Nat.{_+_, _*_, _≤_, _<_};
+ghost use Prim.Native.Nat.{_≤_, _<_};
 ghost use lib.ListN.{length};
 
-pub const OUTPUT: usize = 65536;
+// Stands in a template for the next number.
+const MARK: u8 = 37;
 
-// What waits to be written.
-pub type Output = [u8; OUTPUT];
+// Stands between templates.
+const BAR: u8 = 124;
 
-// More than the longest line of a program: a line that was read, two buffers of 4,096 bytes, or one of 8,192, in digits, and 22 numbers.
-const LONGEST: usize = 40000;
+// Stands for a byte that is no printable character.
+const DOT: u8 = 46;
 
-// ---- writing out
+// Longer than most lines, so that these are written at once.
+const LINE: usize = 512;
 
-pub fn write_out(out: &[u8], count: usize) {
-    if count <= out.len() {
-        io::write_all(STDOUT_FILENO, &out[0..count]);
-    }
+// ---- text
+
+// Writes the first `at` bytes to standard output.
+pub fn write_out(out: &[u8], at: usize) {
+    let count = least(at, out.len());
+    io::write_all(STDOUT_FILENO, &out[0..count]);
 }
 
-// The index to lay the next line at.
-pub fn make_room(out: &Output, at: usize) -> usize {
-    if at < OUTPUT - LONGEST {
-        return at;
+// A text that the whole array cannot hold is written by itself.
+fn add_anew(out: &mut [u8], text: &[u8]) -> usize {
+    if out.len() < text.len() {
+        io::write_all(STDOUT_FILENO, text);
+        return 0;
+    }
+    base::buffer::copy_at(out, 0, text);
+    text.len()
+}
+
+// Lays a text.
+pub fn add(out: &mut [u8], at: usize, text: &[u8]) -> usize {
+    if at <= out.len() {
+        if text.len() <= out.len() - at {
+            base::buffer::copy_at(out, at, text);
+            return at + text.len();
+        }
     }
     write_out(out, at);
-    0
+    add_anew(out, text)
 }
 
-// ---- text, numbers and bytes; each answers the index past what it laid, or `at` where there is no room
+// ---- numbers
 
-pub fn add(out: &mut [u8], at: usize, text: &[u8]) -> usize {
-    if out.len() < at {
-        return at;
-    }
-    if out.len() - at < text.len() {
-        return at;
-    }
-    base::buffer::copy_at(out, at, text);
-    at + text.len()
-}
-
-pub fn add_digits(out: &mut Output, at: usize, number: u64) -> usize {
+fn add_digits(out: &mut [u8], at: usize, number: u64) -> usize {
     let mut digits = [0u8; 20];
     let count = io::decimal(number, &mut digits);
     add(out, at, &digits[..count])
 }
 
-// Each number with a space behind it.
-pub fn add_numbers(out: &mut Output, at: usize, numbers: &[u64]) -> usize {
-    let mut next = at;
-    let mut i: usize = 0;
-    while i < numbers.len() {
-        let end = add_digits(out, next, numbers[i]);
-        next = add(out, end, b" ");
-        i += 1;
+// A mark with no number to it stays.
+fn add_nth(out: &mut [u8], at: usize, numbers: &[u64], n: usize) -> usize {
+    if n < numbers.len() {
+        return add_digits(out, at, numbers[n]);
+    }
+    add(out, at, b"%")
+}
+
+// The template's text from i up to the mark at `end`, and that mark's number; there is none at the template's end.
+fn add_part(
+    out: &mut [u8],
+    at: usize,
+    template: &[u8],
+    i: usize,
+    end: usize,
+    numbers: &[u64],
+    n: usize,
+) -> usize
+    requires { ⌜ (i ≤ end) × (end ≤ length (now template)) ⌝ }
+{
+    let next = add(out, at, &template[i..end]);
+    if end < template.len() {
+        return add_nth(out, next, numbers, n);
     }
     next
 }
+
+// Lays the template, each `%` of it as the next number in decimal digits.
+pub fn add_filled(out: &mut [u8], at: usize, template: &[u8], numbers: &[u64]) -> usize {
+    let mut next = at;
+    let mut n: usize = 0;
+    let mut i: usize = 0;
+    while i < template.len() {
+        let end = bytes::scan::find(template, i, template.len(), MARK);
+        next = add_part(out, next, template, i, end, numbers, n);
+        i = end + 1;
+        n += 1;
+    }
+    next
+}
+
+// Where text n of the texts, apart by `|`, begins.
+fn start_of(texts: &[u8], n: usize) -> usize
+    ensures { λ r. ⌜ r ≤ length (now (texts .entry)) ⌝ }
+{
+    let mut i: usize = 0;
+    let mut k: usize = 0;
+    while k < n {
+        let from = least(i, texts.len());
+        i = bytes::scan::find(texts, from, texts.len(), BAR) + 1;
+        k += 1;
+    }
+    least(i, texts.len())
+}
+
+// Lays template n, from 0 on, of the templates apart by `|`. To choose a number and lay once takes less proof than a call for each.
+pub fn add_chosen(out: &mut [u8], at: usize, templates: &[u8], n: usize, numbers: &[u64]) -> usize {
+    let start = start_of(templates, n);
+    let end = bytes::scan::find(templates, start, templates.len(), BAR);
+    add_filled(out, at, &templates[start..end], numbers)
+}
+
+// ---- bytes
 
 fn glyph(nibble: u8) -> u8
     requires { ⌜ nibble < 16 ⌝ }
@@ -69,82 +129,102 @@ fn glyph(nibble: u8) -> u8
     }
 }
 
-fn high(byte: u8) -> u8
-    ensures { λ r. ⌜ r < 16 ⌝ }
-{
-    byte / 16
+fn pair(byte: u8) -> [u8; 2] {
+    [glyph(byte / 16), glyph(byte % 16)]
 }
 
-fn low(byte: u8) -> u8
-    ensures { λ r. ⌜ r < 16 ⌝ }
-{
-    byte % 16
-}
-
-fn spell(out: &mut [u8], at: usize, byte: u8)
-    requires { ⌜ at + 2 ≤ length (now out) ⌝ }
-{
-    let first = glyph(high(byte));
-    let second = glyph(low(byte));
-    out[at] = first;
-    out[at + 1] = second;
-}
-
-fn spell_all(out: &mut [u8], bytes: &[u8])
-    requires { ⌜ 2 * length (now bytes) ≤ length (now out) ⌝ }
-{
-    let mut i: usize = 0;
-    while i < bytes.len() {
-        spell(out, 2 * i, bytes[i]);
-        i += 1;
+// Buffers are long, and two stores are quicker than `add`.
+fn add_pair(out: &mut [u8], at: usize, pair: [u8; 2]) -> usize {
+    if at < out.len() {
+        if 1 < out.len() - at {
+            out[at] = pair[0];
+            out[at + 1] = pair[1];
+            return at + 2;
+        }
     }
+    add(out, at, &pair)
 }
 
-fn add_pairs(out: &mut [u8], at: usize, bytes: &[u8]) -> usize {
-    if out.len() < at {
-        return at;
-    }
-    if (out.len() - at) / 2 < bytes.len() {
-        return at;
-    }
-    spell_all(&mut out[at..], bytes);
-    at + 2 * bytes.len()
-}
-
-// The first bytes of a buffer, as many as are lent.
-pub fn add_bytes(out: &mut [u8], at: usize, bytes: &[u8], count: usize) -> usize {
-    if bytes.len() < count {
-        return at;
-    }
-    if count == 0 {
+// Lays bytes in hexadecimal digits, upper case; `-` for none.
+pub fn add_hex(out: &mut [u8], at: usize, bytes: &[u8]) -> usize {
+    if bytes.len() == 0 {
         return add(out, at, b"-");
     }
-    add_pairs(out, at, &bytes[0..count])
+    let mut next = at;
+    let mut i: usize = 0;
+    while i < bytes.len() {
+        next = add_pair(out, next, pair(bytes[i]));
+        i += 1;
+    }
+    next
 }
 
-// ---- numbers as wide as the link's
-
-pub fn of_small(n: u8) -> u64 {
-    n as u64
+fn printable(byte: u8) -> u8 {
+    if byte < 32 {
+        return DOT;
+    }
+    if 126 < byte {
+        return DOT;
+    }
+    byte
 }
 
-pub fn of_middle(n: u16) -> u64 {
-    n as u64
-}
-
-pub fn of_wide(n: u32) -> u64 {
-    n as u64
-}
-
-pub fn of_flag(is_set: bool) -> u64 {
-    if is_set { 1 } else { 0 }
+// Lays bytes as characters, and a dot for each that is none.
+pub fn add_printable(out: &mut [u8], at: usize, bytes: &[u8]) -> usize {
+    let mut next = at;
+    let mut i: usize = 0;
+    while i < bytes.len() {
+        next = add(out, next, &[printable(bytes[i])]);
+        i += 1;
+    }
+    next
 }
 
 // ---- lines
 
-// A line that is no command.
-pub fn add_bad(out: &mut Output, at: usize, number: u64) -> usize {
-    let a = add(out, at, b"bad line ");
-    let b = add_digits(out, a, number);
-    add(out, b, b"\n")
+// Ends the line and writes it.
+pub fn end_line(out: &mut [u8], at: usize) {
+    let end = add(out, at, b"\n");
+    write_out(out, end);
+}
+
+// Writes a text.
+pub fn write(text: &[u8]) {
+    io::write_all(STDOUT_FILENO, text);
+}
+
+// Writes the template, each `%` of it as the next number.
+pub fn write_filled(template: &[u8], numbers: &[u64]) {
+    let mut line = [0u8; LINE];
+    let at = add_filled(&mut line, 0, template, numbers);
+    write_out(&line, at);
+}
+
+// Writes a line: the template, each `%` of it as the next number.
+pub fn say(template: &[u8], numbers: &[u64]) {
+    let mut line = [0u8; LINE];
+    let at = add_filled(&mut line, 0, template, numbers);
+    end_line(&mut line, at);
+}
+
+// ---- numbers of other widths, for a template
+
+// A u8 as a template's number.
+pub fn from_u8(n: u8) -> u64 {
+    n as u64
+}
+
+// A u16 as a template's number.
+pub fn from_u16(n: u16) -> u64 {
+    n as u64
+}
+
+// A u32 as a template's number.
+pub fn from_u32(n: u32) -> u64 {
+    n as u64
+}
+
+// 1 where it is set, else 0.
+pub fn from_flag(is_set: bool) -> u64 {
+    if is_set { 1 } else { 0 }
 }

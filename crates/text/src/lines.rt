@@ -1,14 +1,11 @@
 // Standard input, line by line, in no more memory than one buffer.
+use crate::input;
+use crate::input::INPUT;
+use crate::input::Input;
 use crate::least;
-use libc::STDIN_FILENO;
-ghost use Prim.Native.Nat.{_+_, _≤_};
+ghost use Prim.Native.Nat.{_+_, _≤_, _<_};
 ghost use lib.ListN.{length};
 ghost use mathlib.Core.Path.{_≡_};
-
-pub const INPUT: usize = 65536;
-
-// What was read: a whole line, and more.
-pub type Input = [u8; INPUT];
 
 // A longer line is dropped as it is read.
 const LONGEST: usize = 20000;
@@ -31,6 +28,7 @@ pub struct Reader {
     pub done: bool,
 }
 
+// Before the first line.
 pub fn beginning() -> Reader {
     Reader {
         number: 0,
@@ -45,7 +43,7 @@ pub fn beginning() -> Reader {
     }
 }
 
-// A line without bytes, or a comment.
+// Whether a line asks for nothing: it is blank or a comment.
 pub fn is_silent(line: &[u8]) -> bool {
     if line.len() == 0 {
         return true;
@@ -80,20 +78,14 @@ fn none_given(r: Reader) -> Reader
 
 // ---- reading
 
-fn read_some(input: &mut [u8]) -> usize
-    ensures { λ r. ⌜ r ≤ length (now (input .exit)) ⌝ }
-{
-    let got = libc::read(STDIN_FILENO, input);
-    io::count(got, input)
-}
-
 fn read_behind(input: &mut [u8], kept: usize) -> usize
     requires { ⌜ kept ≤ length (now input) ⌝ }
     ensures { λ r. ⌜ kept + r ≤ length (now (input .exit)) ⌝ }
 {
-    read_some(&mut input[kept..])
+    input::read(&mut input[kept..])
 }
 
+// Moves the bytes from `from` up to `to` to the front.
 pub fn move_to_front(input: &mut [u8], from: usize, to: usize)
     requires { ⌜ (from ≤ to) × (to ≤ length (now input)) ⌝ }
 {
@@ -134,12 +126,10 @@ fn finished(r: Reader) -> Reader
 }
 
 // One read behind the line that has not ended, and perhaps the last line: a read that brings nothing is the input's end.
-// What a reader says is believed no further than the input goes.
-pub fn read_more(input: &mut Input, r: Reader) -> Reader
+fn read_more(input: &mut Input, from: usize, count: usize, r: Reader) -> Reader
+    requires { ⌜ (from ≤ count) × (count ≤ 65536) ⌝ }
     ensures { λ k. ⌜ (k .start ≤ k .end) × (k .end ≤ 65536) ⌝ }
 {
-    let count = least(r.count, INPUT);
-    let from = least(r.from, count);
     let k = keep(input, from, count, r);
     let kept = k.count;
     let got = read_behind(input, kept);
@@ -151,8 +141,8 @@ pub fn read_more(input: &mut Input, r: Reader) -> Reader
     more
 }
 
-// The next line, if one ends in what was read.
-pub fn next(input: &Input, r: Reader) -> Reader
+// The next line, if one ends in what was read; else what one read brings. What a reader says is believed no further than the input goes.
+pub fn next(input: &mut Input, r: Reader) -> Reader
     ensures { λ k. ⌜ (k .start ≤ k .end) × (k .end ≤ 65536) ⌝ }
 {
     let count = least(r.count, INPUT);
@@ -163,5 +153,18 @@ pub fn next(input: &Input, r: Reader) -> Reader
         k.from = end + 1;
         return k;
     }
-    none_given(r)
+    read_more(input, from, count, r)
+}
+
+// ---- all lines
+
+// Nothing says that the input ends, so a program counts its turns down, from a number that no run uses up.
+pub const TURNS: u64 = u64::MAX;
+
+// The turns that are left after one: none where the input has ended.
+pub fn turns_left(r: Reader, turns: u64) -> u64
+    requires { ⌜ 0 < turns ⌝ }
+    ensures { λ k. ⌜ k < turns ⌝ }
+{
+    if r.done { 0 } else { turns - 1 }
 }
