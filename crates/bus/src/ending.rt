@@ -1,165 +1,135 @@
 // What the two ends are at a moment, and what came of it all in the end.
-use crate::ends;
-use crate::ends::Bus;
-use crate::ends::Fresh;
-use crate::moves;
-use crate::shelf;
-use crate::shelf::GOT;
-use crate::shelf::Kept;
-use crate::shelf::QUEUE;
-use crate::shelf::TAKEN;
+use crate::book;
+use crate::book::Book;
+use crate::book::Story;
 use crate::words;
+use crate::words::LINE;
+use crate::words::add_if;
+use crate::words::second_if;
+use ends::CHIP;
+use ends::DESK;
+use ends::Ends;
+use ends::line::Line;
 use state::Link;
-use text::heard::add_counted;
-use text::lay::Output;
-use text::lay::add;
-use text::lay::of_small;
-use text::least;
+use text::lay;
+use text::lay::add_chosen;
+use text::lay::add_filled;
+use text::lay::from_u8;
 
 // ---- a moment
 
-fn add_if(out: &mut Output, at: usize, is_so: bool, words: &[u8]) -> usize {
-    if is_so {
-        return add(out, at, words);
-    }
-    at
+fn add_marks(out: &mut [u8], at: usize, acking: bool, nakmark: bool, lost: bool) -> usize {
+    let mut next = add_if(out, at, acking, b", owes an acknowledgement");
+    next = add_if(out, next, nakmark, b", has sent its nak");
+    add_if(out, next, lost, b", link lost")
 }
 
-fn add_link(out: &mut Output, at: usize, l: Link) -> usize {
-    let a = add_counted(out, at, b": sends number ", of_small(l.next));
-    let b = add_counted(out, a, b" next, expects ", of_small(l.expected));
-    let c = add_counted(out, b, b", waiting packets: ", of_small(l.waiting));
-    let d = add_if(out, c, l.acking, b", owes an acknowledgement");
-    let e = add_if(out, d, l.nakmark, b", has sent its nak");
-    add_if(out, e, l.lost, b", link lost")
+fn add_link(out: &mut [u8], at: usize, l: Link) -> usize {
+    let next = add_filled(
+        out,
+        at,
+        b": sends number % next, expects %, waiting packets: %",
+        &[from_u8(l.next), from_u8(l.expected), from_u8(l.waiting)],
+    );
+    add_marks(out, next, l.acking, l.nakmark, l.lost)
 }
 
-fn add_place(out: &mut Output, at: usize, d: u16, place: &[u8], count: usize) -> usize {
-    let n = least(count, place.len());
-    words::add_frame(out, at, d, &place[0..n])
+fn tell_link(clock: u32, end: usize, l: Link) {
+    let mut out = [0u8; LINE];
+    let mut at = words::add_end(&mut out, 0, clock, end);
+    at = add_link(&mut out, at, l);
+    lay::end_line(&mut out, at);
 }
 
-fn show_frame(here: &Kept, fresh: &mut Fresh, out: &mut Output, b: Bus, n: usize) -> Bus {
-    let count = shelf::read(here, QUEUE, n, fresh);
-    let a = moves::begun_with(out, b, b"  on its way there: ");
-    let c = add_place(out, a, b.here.link.settings.d, fresh, count);
-    moves::ended(out, c, b)
+fn tell_frame(wire: &Line, p: Ends, end: usize, n: usize) {
+    let mut out = [0u8; LINE];
+    let mut at = lay::add(&mut out, 0, b"  on its way there: ");
+    at = words::add_frame_at(&mut out, at, wire, p, end, n);
+    lay::end_line(&mut out, at);
 }
 
-fn show_queue(here: &Kept, fresh: &mut Fresh, out: &mut Output, b: Bus, count: usize) -> Bus {
-    let mut k = b;
+// Tells the end, and what is on its way to it.
+pub fn show(wire: &Line, p: Ends, end: usize) {
+    let e = ends::end_of(p, end);
+    tell_link(p.clock, end, e.link);
     let mut n: usize = 0;
-    while n < count {
-        k = show_frame(here, fresh, out, k, n);
+    while n < e.queue {
+        tell_frame(wire, p, end, n);
         n += 1;
     }
-    k
-}
-
-// The end here, and what is on its way to it.
-pub fn show(here: &Kept, fresh: &mut Fresh, out: &mut Output, b: Bus) -> Bus {
-    let a = moves::begun_at_clock(out, b);
-    let c = words::add_name(out, a, b.here.is_desk);
-    let d = add_link(out, c, b.here.link);
-    let k = moves::ended(out, d, b);
-    show_queue(here, fresh, out, k, b.here.queue)
 }
 
 // ---- the end
 
-// Whether what the end here got is the first so many of what the end there took.
-fn is_in_order(here: &Kept, there: &Kept, got: usize, taken: usize) -> bool {
-    let mut is_so = got <= taken;
-    let mut n: usize = 0;
-    while n < got {
-        is_so = is_so & shelf::is_same(there, here, TAKEN, GOT, n);
-        n += 1;
-    }
-    is_so
+// What the end got of what the other took.
+fn add_count(out: &mut [u8], end: usize, got: usize, taken: usize, is_same: bool) -> usize {
+    let is_so = is_same & (got <= taken) & (0 < got);
+    add_chosen(
+        out,
+        0,
+        b"the desk got % of % packets taken at the chip|the chip got % of % packets taken at the desk|the desk got % of % packets taken at the chip, each once and in order|the chip got % of % packets taken at the desk, each once and in order",
+        end % 2 + 2 * second_if(is_so),
+        &[got as u64, taken as u64],
+    )
 }
 
-fn add_dropped(out: &mut Output, at: usize, dropped: u64) -> usize {
+fn add_dropped(out: &mut [u8], at: usize, dropped: u64) -> usize {
     if dropped == 0 {
         return at;
     }
-    add_counted(out, at, b"; dropped there by a reset: ", dropped)
+    add_filled(out, at, b"; dropped there by a reset: %", &[dropped])
 }
 
-fn tell_count(here: &Kept, there: &Kept, out: &mut Output, b: Bus) -> Bus {
-    let is_so = is_in_order(here, there, b.here.got, b.there.taken);
-    let at = moves::begun(out, b);
-    let a = words::add_name(out, at, b.here.is_desk);
-    let c = add_counted(out, a, b" got ", b.here.got as u64);
-    let d = add_counted(out, c, b" of ", b.there.taken as u64);
-    let e = add(out, d, b" packets taken at ");
-    let f = words::add_name(out, e, b.there.is_desk);
-    let g = add_if(
-        out,
-        f,
-        is_so & (0 < b.here.got),
-        b", each once and in order",
-    );
-    let h = add_dropped(out, g, b.there.dropped);
-    moves::ended(out, h, b)
+fn tell_count(book: &Book, s: Story, end: usize, got: usize) {
+    let sender = ends::end_of(s.ends, ends::other(end));
+    let shelf = book::taken_at(ends::other(end));
+    let is_same = book::is_same(book, book::got_at(end), shelf, got);
+    let mut out = [0u8; LINE];
+    let mut at = add_count(&mut out, end, got, book::count_of(s, shelf), is_same);
+    at = add_dropped(&mut out, at, sender.dropped);
+    lay::end_line(&mut out, at);
 }
 
-fn add_got(out: &mut Output, at: usize, place: &[u8], count: usize) -> usize {
-    let n = least(count, place.len());
-    words::add_packet(out, at, &place[0..n])
+fn tell_packet(packet: &[u8]) {
+    let mut out = [0u8; LINE];
+    let at = words::add_packet(&mut out, 0, b"  \"", packet);
+    lay::end_line(&mut out, at);
 }
 
-fn tell_packet(here: &Kept, fresh: &mut Fresh, out: &mut Output, b: Bus, n: usize) -> Bus {
-    let count = shelf::read(here, GOT, n, fresh);
-    let a = moves::begun_with(out, b, b"  ");
-    let c = add_got(out, a, fresh, count);
-    moves::ended(out, c, b)
-}
-
-fn tell_packets(here: &Kept, fresh: &mut Fresh, out: &mut Output, b: Bus, count: usize) -> Bus {
-    let mut k = b;
+fn tell_got(book: &Book, s: Story, end: usize) {
+    let shelf = book::got_at(end);
+    let count = book::count_of(s, shelf);
+    tell_count(book, s, end, count);
     let mut n: usize = 0;
     while n < count {
-        k = tell_packet(here, fresh, out, k, n);
+        tell_packet(book::packet_at(book, shelf, n));
         n += 1;
     }
-    k
 }
 
-fn tell_got(here: &Kept, there: &Kept, fresh: &mut Fresh, out: &mut Output, b: Bus) -> Bus {
-    let k = tell_count(here, there, out, b);
-    tell_packets(here, fresh, out, k, b.here.got)
-}
-
-fn tell_waiting(out: &mut Output, b: Bus) -> Bus {
-    let at = moves::begun(out, b);
-    let a = add_counted(
-        out,
-        at,
-        b"waiting at the desk: ",
-        of_small(b.here.link.waiting),
+fn tell_left(p: Ends) {
+    let desk = ends::link_of(p, DESK);
+    let chip = ends::link_of(p, CHIP);
+    words::say_chosen(
+        b"waiting at the desk: %, at the chip: %|waiting at the desk: % (link lost), at the chip: %|waiting at the desk: %, at the chip: % (link lost)|waiting at the desk: % (link lost), at the chip: % (link lost)",
+        second_if(desk.lost) + 2 * second_if(chip.lost),
+        &[from_u8(desk.waiting), from_u8(chip.waiting)],
     );
-    let c = add_if(out, a, b.here.link.lost, b" (link lost)");
-    let d = add_counted(out, c, b", at the chip: ", of_small(b.there.link.waiting));
-    let e = add_if(out, d, b.there.link.lost, b" (link lost)");
-    moves::ended(out, e, b)
 }
 
-fn tell_time(out: &mut Output, b: Bus) -> Bus {
-    let at = moves::begun(out, b);
-    let a = add_counted(out, at, b"timer rounds: ", b.rounds);
-    let c = add_counted(out, a, b", milliseconds: ", b.passed);
-    moves::ended(out, c, b)
+fn tell_time(rounds: u64, ms: u64) {
+    lay::say(b"timer rounds: %, milliseconds: %", &[rounds, ms]);
 }
 
-// Who got what, what is left, and how long it took; nothing where there was no pair.
-pub fn tell(desk: &Kept, chip: &Kept, fresh: &mut Fresh, out: &mut Output, b: Bus) -> Bus {
-    if b.has_pair == false {
-        return b;
+// Tells who got what, what is left, and how long it took; nothing where there is no pair.
+pub fn tell(book: &Book, s: Story) {
+    if s.has_pair == false {
+        return;
     }
-    let at = moves::begun_with(out, b, b"-- in the end");
-    let begun = moves::ended(out, at, b);
-    let at_chip = ends::turned(tell_got(chip, desk, fresh, out, ends::turned(begun)));
-    let at_desk = tell_got(desk, chip, fresh, out, at_chip);
-    let left = tell_waiting(out, at_desk);
-    tell_time(out, left)
+    lay::say(b"-- in the end", &[]);
+    tell_got(book, s, CHIP);
+    tell_got(book, s, DESK);
+    let p = s.ends;
+    tell_left(p);
+    tell_time(p.rounds, p.passed);
 }

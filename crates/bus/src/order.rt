@@ -1,194 +1,167 @@
 // A line's command: docs/BUS.md.
+use ends::CHIP;
+use ends::DESK;
+use ends::line::bytes_at;
 use text::field;
 use text::field::BYTES;
-use text::field::Bytes;
 use text::field::Fields;
+use text::field::MOST_BYTES;
+use text::field::SPACE;
+use text::field::U8;
+use text::field::U16;
+use text::field::U32;
+use text::field::Values;
 
-pub enum Verb {
-    Unknown,
-    Pair,
-    Submit,
-    Carry,
-    Lose,
-    Damage,
-    Look,
-    Acknowledge,
-    Resynchronise,
-    Clock,
-    Wait,
-    Round,
-    Settle,
-    Show,
-    Tell,
-}
+// The commands, in the order of verb_of's words: those on the whole bus, then those at an end.
+pub const PAIR: usize = 0;
 
-// rest: where the text of submit and tell begins.
+pub const END: usize = 1;
+
+pub const CLOCK: usize = 2;
+
+pub const WAIT: usize = 3;
+
+pub const ROUND: usize = 4;
+
+pub const SETTLE: usize = 5;
+
+pub const SHOW: usize = 6;
+
+pub const TELL: usize = 7;
+
+pub const SUBMIT: usize = 8;
+
+pub const CARRY: usize = 9;
+
+pub const LOSE: usize = 10;
+
+pub const DAMAGE: usize = 11;
+
+pub const LOOK: usize = 12;
+
+pub const ACKNOWLEDGE: usize = 13;
+
+pub const RESYNCHRONISE: usize = 14;
+
+const UNKNOWN: usize = 15;
+
+// The text of submit and tell begins at `rest`.
 pub struct Order {
-    pub fields: Fields,
+    pub values: Values,
     pub rest: usize,
-    pub verb: Verb,
-    pub is_desk: bool,
+    pub verb: usize,
+    pub end: usize,
+    pub good: bool,
 }
 
-const SMALL: u64 = 255;
-
-const MIDDLE: u64 = 65535;
-
-const WIDE: u64 = 4294967295;
-
-// ---- words
-
-fn verb_of_bus(word: &[u8]) -> Verb {
-    if check::same(word, b"pair") {
-        return Verb::Pair;
-    }
-    if check::same(word, b"clock") {
-        return Verb::Clock;
-    }
-    if check::same(word, b"wait") {
-        return Verb::Wait;
-    }
-    if check::same(word, b"round") {
-        return Verb::Round;
-    }
-    if check::same(word, b"settle") {
-        return Verb::Settle;
-    }
-    if check::same(word, b"show") {
-        return Verb::Show;
-    }
-    if check::same(word, b"tell") {
-        return Verb::Tell;
-    }
-    Verb::Unknown
+fn verb_of(word: &[u8]) -> usize {
+    field::place_of(
+        word,
+        b"pair end clock wait round settle show tell submit carry lose damage look acknowledge resynchronise",
+    )
 }
 
-fn verb_of_end(word: &[u8]) -> Verb {
-    if check::same(word, b"submit") {
-        return Verb::Submit;
-    }
-    if check::same(word, b"carry") {
-        return Verb::Carry;
-    }
-    if check::same(word, b"lose") {
-        return Verb::Lose;
-    }
-    if check::same(word, b"damage") {
-        return Verb::Damage;
-    }
-    if check::same(word, b"look") {
-        return Verb::Look;
-    }
-    if check::same(word, b"acknowledge") {
-        return Verb::Acknowledge;
-    }
-    if check::same(word, b"resynchronise") {
-        return Verb::Resynchronise;
-    }
-    Verb::Unknown
+// The line from `at` on.
+pub fn rest_of(line: &[u8], at: usize) -> &[u8] {
+    bytes_at(line, at, std::num::wrapping_sub_usize(line.len(), at))
+}
+
+fn word_at(line: &[u8], at: usize) -> &[u8] {
+    let rest = rest_of(line, at);
+    let end = field::word_end(rest);
+    &rest[0..end]
 }
 
 // ---- fields
 
-fn fields(is_good: bool) -> Fields {
+// The largest numbers of a command's fields, how many there are, and how many there must be.
+struct Form {
+    largest: [u64; 6],
+    most: usize,
+    least: usize,
+}
+
+fn fields_like(largest: [u64; 6], most: usize, least: usize) -> Form {
+    Form {
+        largest,
+        most,
+        least,
+    }
+}
+
+fn form_of(verb: usize) -> Form {
+    match verb {
+        PAIR => fields_like([U16, U8, U16, U16, U8, U32], 6, 5),
+        CLOCK | WAIT | LOSE => fields_like([U32, 0, 0, 0, 0, 0], 1, 1),
+        DAMAGE => fields_like([U32, BYTES, 0, 0, 0, 0], 2, 2),
+        CARRY | ROUND => fields_like([U8, 0, 0, 0, 0, 0], 1, 0),
+        _ => fields_like([0; 6], 0, 0),
+    }
+}
+
+fn first_of(numbers: &[u64], count: usize) -> &[u64] {
+    let end = text::least(count, numbers.len());
+    &numbers[0..end]
+}
+
+fn numbers_of(line: &[u8], at: usize, verb: usize) -> Fields {
+    let f = form_of(verb);
+    let largest = f.largest;
+    let mut bytes = [0u8; MOST_BYTES];
+    field::read_all(line, at, first_of(&largest, f.most), f.least, &mut bytes)
+}
+
+// A text stands behind a space; tell has also none.
+fn text_of(line: &[u8], at: usize, verb: usize) -> Fields {
+    let rest = rest_of(line, at);
+    let mut good = verb == TELL;
+    if 0 < rest.len() {
+        good = rest[0] == SPACE;
+    }
     Fields {
         values: [0; field::FIELDS],
-        good: is_good,
+        good,
     }
 }
 
-// The fields behind a word, or behind an end's name.
-fn fields_of(line: &[u8], at: usize, verb: Verb, bytes: &mut Bytes) -> Fields {
-    match verb {
-        Verb::Unknown => fields(false),
-        Verb::Pair => field::read_all(
-            line,
-            at,
-            &[MIDDLE, SMALL, MIDDLE, MIDDLE, SMALL, WIDE],
-            5,
-            bytes,
-        ),
-        Verb::Submit => fields(has_text(line, at)),
-        Verb::Tell => fields((at == line.len()) | has_text(line, at)),
-        Verb::Lose | Verb::Clock | Verb::Wait => field::read_all(line, at, &[WIDE], 1, bytes),
-        Verb::Damage => field::read_all(line, at, &[WIDE, BYTES], 2, bytes),
-        Verb::Carry | Verb::Round => field::read_all(line, at, &[SMALL], 0, bytes),
-        Verb::Look | Verb::Acknowledge | Verb::Resynchronise | Verb::Settle | Verb::Show => {
-            field::read_all(line, at, &[], 0, bytes)
-        }
+fn fields_of(line: &[u8], at: usize, verb: usize) -> Fields {
+    if (verb == TELL) | (verb == SUBMIT) {
+        return text_of(line, at, verb);
     }
+    numbers_of(line, at, verb)
 }
 
-fn has_text(line: &[u8], at: usize) -> bool {
-    if line.len() <= at {
-        return false;
-    }
-    line[at] == field::SPACE
-}
+// ---- orders
 
-// Where the text is that stands behind the space at `at`.
-fn behind(line: &[u8], at: usize) -> usize {
-    if at < line.len() { at + 1 } else { at }
-}
-
-// ---- an end's name
-
-const NAME: usize = 5;
-
-fn is_named(line: &[u8], at: usize, name: &[u8]) -> bool {
-    if line.len() < at {
-        return false;
-    }
-    if line.len() - at < NAME {
-        return false;
-    }
-    let end = at + NAME;
-    check::same(&line[at..end], name)
-}
-
-fn order_of(line: &[u8], at: usize, verb: Verb, is_desk: bool, bytes: &mut Bytes) -> Order {
-    let fields = fields_of(line, at, verb, bytes);
+fn order_at(line: &[u8], at: usize, verb: usize, end: usize) -> Order {
+    let fields = fields_of(line, at, verb);
+    let values = fields.values;
     Order {
-        fields,
-        rest: behind(line, at),
+        values,
+        rest: std::num::wrapping_add_usize(at, 1),
         verb,
-        is_desk,
+        end,
+        good: fields.good & (verb < UNKNOWN) & (end <= CHIP),
     }
 }
 
-fn past_name(line: &[u8], at: usize) -> usize {
-    if line.len() < at {
-        return at;
-    }
-    if line.len() - at < NAME {
-        return at;
-    }
-    at + NAME
+fn order_at_end(line: &[u8], at: usize, verb: usize) -> Order {
+    let name = word_at(line, at);
+    let end = field::place_of(name, b"desk chip");
+    order_at(
+        line,
+        std::num::wrapping_add_usize(at, name.len()),
+        verb,
+        end,
+    )
 }
 
-fn order_at_end(line: &[u8], at: usize, verb: Verb, bytes: &mut Bytes) -> Order {
-    let rest = past_name(line, at);
-    if is_named(line, at, b" desk") {
-        return order_of(line, rest, verb, true, bytes);
+// The line's command.
+pub fn read(line: &[u8]) -> Order {
+    let word = word_at(line, 0);
+    let verb = verb_of(word);
+    if verb < SUBMIT {
+        return order_at(line, word.len(), verb, DESK);
     }
-    if is_named(line, at, b" chip") {
-        return order_of(line, rest, verb, false, bytes);
-    }
-    order_of(line, at, Verb::Unknown, false, bytes)
-}
-
-fn is_unknown(verb: Verb) -> bool {
-    match verb {
-        Verb::Unknown => true,
-        _ => false,
-    }
-}
-
-pub fn read(line: &[u8], bytes: &mut Bytes) -> Order {
-    let end = field::word_end(line);
-    let verb = verb_of_end(&line[0..end]);
-    if is_unknown(verb) {
-        return order_of(line, end, verb_of_bus(&line[0..end]), false, bytes);
-    }
-    order_at_end(line, end, verb, bytes)
+    order_at_end(line, std::num::wrapping_add_usize(word.len(), 1), verb)
 }

@@ -1,189 +1,126 @@
-// The words of the story. Each function answers the index past what it laid, as those of `text::lay` do.
+// The words of the story. Those that lay text give the index past it, as those of `text::lay` do.
 use base::answer;
-use state::Link;
-use state::Outcome;
-use state::Settings;
+use ends::Ends;
+use ends::line;
+use ends::line::Line;
+use frame::Format;
 use text::heard;
-use text::heard::add_counted;
-use text::lay::Output;
+use text::lay;
 use text::lay::add;
-use text::lay::add_digits;
-use text::lay::of_middle;
-use text::lay::of_small;
-use text::lay::of_wide;
+use text::lay::add_chosen;
+use text::lay::add_filled;
+use text::lay::from_u8;
+use text::lay::from_u32;
 use text::least;
-ghost use Prim.Native.Nat.{_+_, _≤_};
-ghost use lib.ListN.{length};
+ghost use Prim.Native.Nat.{_≤_};
 
-// ---- names
-
-pub fn add_name(out: &mut Output, at: usize, is_desk: bool) -> usize {
-    if is_desk {
-        return add(out, at, b"the desk");
-    }
-    add(out, at, b"the chip")
-}
-
-pub fn add_clock(out: &mut Output, at: usize, clock: u32) -> usize {
-    let a = add(out, at, b"[");
-    let b = add_digits(out, a, of_wide(clock));
-    add(out, b, b"] ")
-}
-
-// ---- packets
+// Longer than most lines, so that these are written at once.
+pub const LINE: usize = 512;
 
 // A packet is told up to here.
 const TOLD: usize = 60;
 
-// What a script tells is told up to here.
-const LONGEST: usize = 1024;
+// ---- choices
 
-fn printable(byte: u8) -> u8 {
-    if byte < 32 {
-        return 46;
-    }
-    if 126 < byte {
-        return 46;
-    }
-    byte
-}
-
-fn lay_text(out: &mut [u8], bytes: &[u8])
-    requires { ⌜ length (now bytes) ≤ length (now out) ⌝ }
+// 1 where it is so, else 0: the place of a text.
+pub fn second_if(is_so: bool) -> usize
+    ensures { λ r. ⌜ r ≤ 1 ⌝ }
 {
-    let mut i: usize = 0;
-    while i < bytes.len() {
-        out[i] = printable(bytes[i]);
-        i += 1;
-    }
+    if is_so { 1 } else { 0 }
 }
 
-fn add_text(out: &mut [u8], at: usize, bytes: &[u8]) -> usize {
-    if out.len() < at {
-        return at;
-    }
-    if out.len() - at < bytes.len() {
-        return at;
-    }
-    lay_text(&mut out[at..], bytes);
-    at + bytes.len()
+// Lays text n of the texts apart by `|`.
+pub fn add_nth(out: &mut [u8], at: usize, texts: &[u8], n: usize) -> usize {
+    add_chosen(out, at, texts, n, &[])
 }
 
-// A line of the script's own words.
-pub fn add_line(out: &mut Output, at: usize, line: &[u8]) -> usize {
-    add_beginning(out, at, line, least(line.len(), LONGEST))
+// Lays the text where it is so.
+pub fn add_if(out: &mut [u8], at: usize, is_so: bool, text: &[u8]) -> usize {
+    if is_so {
+        return add(out, at, text);
+    }
+    at
 }
 
-fn add_beginning(out: &mut [u8], at: usize, bytes: &[u8], count: usize) -> usize {
-    if bytes.len() < count {
-        return at;
-    }
-    add_text(out, at, &bytes[0..count])
+// Writes a line: template n of the templates apart by `|`, each `%` of it as the next number.
+pub fn say_chosen(templates: &[u8], n: usize, numbers: &[u64]) {
+    let mut out = [0u8; LINE];
+    let at = add_chosen(&mut out, 0, templates, n, numbers);
+    lay::end_line(&mut out, at);
 }
 
-pub fn add_packet(out: &mut Output, at: usize, packet: &[u8]) -> usize {
-    let a = add(out, at, b"\"");
-    let b = add_beginning(out, a, packet, least(packet.len(), TOLD));
-    if TOLD < packet.len() {
-        return add(out, b, b"\"..");
-    }
-    add(out, b, b"\"")
+// ---- packets
+
+// Lays the words before a packet, its opening quote among them, and the packet; of a long one the beginning.
+pub fn add_packet(out: &mut [u8], at: usize, before: &[u8], packet: &[u8]) -> usize {
+    let count = least(packet.len(), TOLD);
+    let mut next = add(out, at, before);
+    next = lay::add_printable(out, next, &packet[0..count]);
+    add_nth(out, next, b"\"|\"..", second_if(TOLD < packet.len()))
 }
 
 // ---- frames
 
-fn add_noise(out: &mut Output, at: usize, count: u64) -> usize {
-    let a = add_counted(out, at, b"noise (", count);
-    add(out, a, b" bytes)")
-}
-
-// A frame as an end with that D hears it.
-pub fn add_frame(out: &mut Output, at: usize, d: u16, frame: &[u8]) -> usize {
-    let heard = frame::hear(d, frame);
+// Lays a frame's name, as an end with that format hears it.
+pub fn add_frame(out: &mut [u8], at: usize, format: Format, frame: &[u8]) -> usize {
+    let heard = frame::hear(format, frame);
     if frame::refusal(heard) == answer::DONE {
         return heard::add_heard(out, at, heard);
     }
-    add_noise(out, at, frame.len() as u64)
+    add_filled(out, at, b"noise (% bytes)", &[frame.len() as u64])
 }
 
-// ---- what a call came to
+// Lays the name of frame n on its way to the end.
+pub fn add_frame_at(
+    out: &mut [u8],
+    at: usize,
+    wire: &Line,
+    p: Ends,
+    end: usize,
+    n: usize,
+) -> usize {
+    let l = ends::link_of(p, end);
+    add_frame(out, at, l.settings.format, line::frame_at(wire, p, end, n))
+}
 
-fn add_reason(out: &mut Output, at: usize, answer: u8) -> usize {
+// ---- answers
+
+// Which of add_answer's templates an answer has.
+fn answer_place(answer: u8) -> usize {
     match answer {
-        answer::OUT_OF_RANGE => add(out, at, b" (a setting out of range)"),
-        answer::LINK_LOST => add(out, at, b" (link lost)"),
-        answer::PACKET_SIZE => add(out, at, b" (packet empty or too long)"),
-        answer::WINDOW_FULL => add(out, at, b" (window full)"),
-        answer::BAD_FRAME => add(out, at, b" (size or checksum)"),
-        answer::UNUSED_CODE => add(out, at, b" (unused code)"),
-        answer::CONTROL_SIZE => add(out, at, b" (control frame with a packet)"),
-        answer::UNEXPECTED => add(out, at, b" (not the expected number)"),
-        _ => at,
+        answer::DONE => 0,
+        answer::OUT_OF_RANGE => 2,
+        answer::LINK_LOST => 3,
+        answer::PACKET_SIZE => 4,
+        answer::WINDOW_FULL => 5,
+        answer::BAD_FRAME => 6,
+        answer::UNUSED_CODE => 7,
+        answer::CONTROL_SIZE => 8,
+        answer::UNEXPECTED => 9,
+        _ => 1,
     }
 }
 
-pub fn add_answer(out: &mut Output, at: usize, answer: u8) -> usize {
-    if answer == answer::DONE {
-        return at;
-    }
-    let a = add_counted(out, at, b", answers ", of_small(answer));
-    add_reason(out, a, answer)
-}
-
-fn add_freed(out: &mut Output, at: usize, before: u8, after: u8) -> usize {
-    if before <= after {
-        return at;
-    }
-    add_counted(out, at, b", frees ", of_small(before - after))
-}
-
-fn add_dropped(out: &mut Output, at: usize, dropped: u8) -> usize {
-    if dropped == 0 {
-        return at;
-    }
-    add_counted(out, at, b", drops ", of_small(dropped))
-}
-
-fn add_sent(out: &mut Output, at: usize, d: u16, frame: &[u8], sent: usize) -> usize {
-    if sent == 0 {
-        return at;
-    }
-    if frame.len() < sent {
-        return at;
-    }
-    let a = add(out, at, b", sends ");
-    add_frame(out, a, d, &frame[0..sent])
-}
-
-// What a call came to: waiting packets that an acknowledgement freed or a reset dropped, its answer, and what it sent.
-pub fn add_outcome(out: &mut Output, at: usize, before: Link, o: Outcome, frame: &[u8]) -> usize {
-    let l = o.state;
-    let a = if o.dropped == 0 {
-        add_freed(out, at, before.waiting, l.waiting)
-    } else {
-        add_dropped(out, at, o.dropped)
-    };
-    let b = add_answer(out, a, o.answer);
-    add_sent(out, b, l.settings.d, frame, o.sent as usize)
-}
-
-// ---- settings
-
-pub fn add_settings(out: &mut Output, at: usize, s: Settings) -> usize {
-    let a = add_counted(out, at, b"D ", of_middle(s.d));
-    let b = add_counted(out, a, b", window ", of_small(s.window));
-    let c = add_counted(
+// Lays what a call answers, if it refuses.
+pub fn add_answer(out: &mut [u8], at: usize, answer: u8) -> usize {
+    add_chosen(
         out,
-        b,
-        b", a packet again after ",
-        of_middle(s.transtimeout),
-    );
-    let d = add_counted(out, c, b" ms, at most ", of_small(s.repeats));
-    let e = add_counted(
+        at,
+        b"|, answers %|, answers % (a setting out of range)|, answers % (link lost)|, answers % (packet empty or too long)|, answers % (window full)|, answers % (size or checksum)|, answers % (unused code)|, answers % (control frame with a packet)|, answers % (not the expected number)",
+        answer_place(answer),
+        &[from_u8(answer)],
+    )
+}
+
+// ---- ends
+
+// Lays the clock and the end's name.
+pub fn add_end(out: &mut [u8], at: usize, clock: u32, end: usize) -> usize {
+    add_chosen(
         out,
-        d,
-        b" times, an acknowledgement after ",
-        of_middle(s.acktimeout),
-    );
-    add(out, e, b" ms")
+        at,
+        b"[%] the desk|[%] the chip",
+        end,
+        &[from_u32(clock)],
+    )
 }

@@ -1,0 +1,113 @@
+// Two ends of the link, the desk and the chip, the frames on their way between them, and one clock. Nothing is told here: each move
+// returns what came of it as a small value. Nothing is required of a caller: an end's number that is not DESK is the chip's.
+pub mod line;
+pub mod moves;
+pub mod rounds;
+
+use state::Link;
+use state::Settings;
+ghost use Prim.Native.Nat.{_≤_};
+
+pub const DESK: usize = 0;
+
+pub const CHIP: usize = 1;
+
+// Two slots of the longest packet, and more.
+pub const SLOT: usize = 2048;
+
+pub const SLOTS: usize = 4096;
+
+// What the two links keep of their waiting packets: the desk's slots, and the chip's behind them.
+pub type Slots = [u8; SLOTS];
+
+// first, queue: where in their ring the frames on their way to the end begin, and how many they are. dropped: how many packets that it
+// took a reset has dropped.
+pub struct End {
+    pub link: Link,
+    pub first: usize,
+    pub queue: usize,
+    pub dropped: u64,
+}
+
+// passed, rounds: the milliseconds and timer rounds since both ends started.
+pub struct Ends {
+    pub desk: End,
+    pub chip: End,
+    pub passed: u64,
+    pub rounds: u64,
+    pub clock: u32,
+}
+
+// The number of the other end.
+pub fn other(end: usize) -> usize {
+    if end == DESK { CHIP } else { DESK }
+}
+
+// The end of that number.
+pub fn end_of(p: Ends, end: usize) -> End {
+    if end == DESK {
+        return p.desk;
+    }
+    p.chip
+}
+
+// The state of the end's link.
+pub fn link_of(p: Ends, end: usize) -> Link {
+    let e = end_of(p, end);
+    e.link
+}
+
+// The same ends but for that one.
+pub fn with_end(p: Ends, end: usize, e: End) -> Ends {
+    let mut k = p;
+    if end == DESK {
+        k.desk = e;
+    } else {
+        k.chip = e;
+    }
+    k
+}
+
+// Where the end's slots begin.
+fn slot_of(end: usize) -> usize
+    ensures { λ r. ⌜ r ≤ 2048 ⌝ }
+{
+    if end == DESK { 0 } else { SLOT }
+}
+
+// ---- the start of both
+
+// What both ends answer, and the two of them.
+pub struct Started {
+    pub ends: Ends,
+    pub answer: u8,
+}
+
+fn new_end(link: Link) -> End {
+    End {
+        link,
+        first: 0,
+        queue: 0,
+        dropped: 0,
+    }
+}
+
+// Two ends in one state, nothing on its way between them.
+fn new_ends(link: Link, clock: u32) -> Ends {
+    Ends {
+        desk: new_end(link),
+        chip: new_end(link),
+        passed: 0,
+        rounds: 0,
+        clock,
+    }
+}
+
+// Both ends started with these settings: where a setting is out of range they are zeros, and answer so to every call.
+pub fn start(s: Settings, clock: u32, slots: &Slots) -> Started {
+    let o = link::start(s, slots);
+    Started {
+        ends: new_ends(o.state, clock),
+        answer: o.answer,
+    }
+}

@@ -1,0 +1,179 @@
+// The frames on their way: to each end a ring of 64 places, each with a length and the bytes behind it.
+use crate::DESK;
+use crate::End;
+use crate::Ends;
+use crate::end_of;
+use crate::with_end;
+ghost use Prim.Native.Nat.{_+_, _≤_};
+ghost use lib.ListN.{length};
+
+// The longest frame.
+pub const FRAME: usize = 1024;
+
+// The most frames that are on their way to an end.
+pub const PLACES: usize = 64;
+
+// A place: a length in two bytes, and the longest frame.
+pub const PLACE: usize = 1026;
+
+const RING: usize = 65664;
+
+// Behind both rings: where a frame is laid for which there is no place.
+const SPARE: usize = 131328;
+
+pub const LINE: usize = 132354;
+
+// The ring to the desk, the ring to the chip, and the spare place.
+pub type Line = [u8; LINE];
+
+// ---- places
+
+fn ring_of(end: usize) -> usize
+    ensures { λ r. ⌜ r ≤ 65664 ⌝ }
+{
+    if end == DESK { 0 } else { RING }
+}
+
+// Where in the line the place is that is n behind the first of a ring.
+fn place_of(end: usize, first: usize, n: usize) -> usize
+    ensures { λ r. ⌜ r ≤ 130302 ⌝ }
+{
+    ring_of(end) + (first % PLACES + n % PLACES) % PLACES * PLACE
+}
+
+// Where the next frame to the end is laid.
+pub fn free_place(p: Ends, end: usize) -> usize
+    ensures { λ r. ⌜ r ≤ 131328 ⌝ }
+{
+    let e = end_of(p, end);
+    if e.queue < PLACES {
+        return place_of(end, e.first, e.queue);
+    }
+    SPARE
+}
+
+// Where frame n of those on their way to the end begins, its length before it.
+pub fn place_at(p: Ends, end: usize, n: usize) -> usize
+    ensures { λ r. ⌜ r ≤ 130302 ⌝ }
+{
+    let e = end_of(p, end);
+    place_of(end, e.first, n)
+}
+
+// ---- what lies on a place
+
+fn joined_bytes(high: u8, low: u8) -> usize
+    ensures { λ r. ⌜ r ≤ 1024 ⌝ }
+{
+    let count = high as usize * 256 + low as usize;
+    if count < FRAME { count } else { FRAME }
+}
+
+// How long the bytes at that place of a store are.
+pub fn length_at(store: &[u8], place: usize) -> usize
+    requires { ⌜ place + 1026 ≤ length (now store) ⌝ }
+    ensures { λ r. ⌜ r ≤ 1024 ⌝ }
+{
+    joined_bytes(store[place], store[place + 1])
+}
+
+// Notes how long the bytes at that place of a store are.
+pub fn set_length(store: &mut [u8], place: usize, count: usize)
+    requires { ⌜ place + 1026 ≤ length (now store) ⌝ }
+{
+    store[place] = (count / 256 % 256) as u8;
+    store[place + 1] = (count % 256) as u8;
+}
+
+// So many bytes of a store; none where it has not so many.
+pub fn bytes_at(store: &[u8], at: usize, count: usize) -> &[u8] {
+    let end = std::num::wrapping_add_usize(at, count);
+    if end < at {
+        return &store[0..0];
+    }
+    if store.len() < end {
+        return &store[0..0];
+    }
+    &store[at..end]
+}
+
+// Frame n of those on their way to the end.
+pub fn frame_at(line: &Line, p: Ends, end: usize, n: usize) -> &[u8] {
+    let place = place_at(p, end, n);
+    bytes_at(line, place + 2, length_at(line, place))
+}
+
+// Lays bytes at that place of a store, if they are not too many.
+pub fn put(store: &mut [u8], place: usize, bytes: &[u8])
+    requires { ⌜ place + 1026 ≤ length (now store) ⌝ }
+{
+    if bytes.len() <= FRAME {
+        set_length(store, place, bytes.len());
+        base::buffer::copy_at(store, place + 2, bytes);
+    }
+}
+
+// ---- queues
+
+// An empty ring begins at its first place again, so that the same memory stays in use.
+fn with_queue(e: End, first: usize, queue: usize) -> End {
+    let mut k = e;
+    k.queue = queue;
+    k.first = if queue == 0 { 0 } else { first };
+    k
+}
+
+// The end without the first frame on its way to it.
+pub fn without_first(e: End) -> End {
+    with_queue(
+        e,
+        (e.first % PLACES + 1) % PLACES,
+        std::num::wrapping_sub_usize(e.queue, 1),
+    )
+}
+
+// ---- losing and damaging
+
+fn move_bytes(line: &mut Line, from: usize, to: usize)
+    requires { ⌜ (from ≤ 130302) × (to ≤ 130302) ⌝ }
+{
+    let mut i: usize = 0;
+    while i < PLACE {
+        line[to + i] = line[from + i];
+        i += 1;
+    }
+}
+
+// The frames behind frame n move up by a place.
+fn close_up(line: &mut Line, end: usize, first: usize, n: usize, last: usize) {
+    let mut k = n;
+    while k < last {
+        let to = place_of(end, first, k);
+        k += 1;
+        move_bytes(line, place_of(end, first, k), to);
+    }
+}
+
+// The end without frame n of those on their way to it. Where it is the first or the last, nothing is copied.
+fn without(e: End, end: usize, line: &mut Line, n: usize) -> End {
+    if n == 0 {
+        return without_first(e);
+    }
+    let last = std::num::wrapping_sub_usize(e.queue, 1);
+    close_up(line, end, e.first, n, last);
+    with_queue(e, e.first, last)
+}
+
+// Frame n of those on their way to the end is lost, if it is there.
+pub fn lose(p: Ends, end: usize, line: &mut Line, n: usize) -> Ends {
+    let e = end_of(p, end);
+    if n < e.queue {
+        return with_end(p, end, without(e, end, line, n));
+    }
+    p
+}
+
+// Frame n of those on their way to the end becomes these bytes, if a frame can have so many.
+pub fn damage(p: Ends, end: usize, line: &mut Line, n: usize, bytes: &[u8]) {
+    put(line, place_at(p, end, n), bytes);
+}
