@@ -18,6 +18,13 @@ pub struct Story {
     pub has_pair: bool,
 }
 
+// The story with its ends as they are now.
+pub fn with_ends(s: Story, ends: Ends) -> Story {
+    let mut k = s;
+    k.ends = ends;
+    k
+}
+
 // The shelf of what the end took.
 pub fn taken_at(end: usize) -> usize {
     end % 2

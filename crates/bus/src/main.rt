@@ -9,21 +9,19 @@ mod words;
 
 use book::BOOK;
 use book::Book;
-use ends::SLOTS;
-use ends::Slots;
-use ends::line::LINE;
-use ends::line::Line;
+use ends::STORE;
+use ends::Store;
 use text::input::INPUT;
 use text::input::Input;
 use text::lines;
 
-fn run(input: &mut Input, slots: &mut Slots, wire: &mut Line, book: &mut Book) {
-    let mut s = story::beginning(slots);
+fn run(input: &mut Input, store: &mut Store, book: &mut Book) {
+    let mut s = story::beginning(store);
     let mut reader = lines::beginning();
     let mut turns = lines::TURNS;
     while 0 < turns {
         reader = lines::next(input, reader);
-        s = story::obey_line(input, reader, slots, wire, book, s);
+        s = story::obey_line(input, reader, store, book, s);
         turns = lines::turns_left(reader, turns);
     }
     ending::tell(book, s);
@@ -31,8 +29,7 @@ fn run(input: &mut Input, slots: &mut Slots, wire: &mut Line, book: &mut Book) {
 
 fn main() {
     let mut input = [0u8; INPUT];
-    let mut slots = [0u8; SLOTS];
-    let mut wire = [0u8; LINE];
+    let mut store = [0u8; STORE];
     let mut book = [0u8; BOOK];
-    run(&mut input, &mut slots, &mut wire, &mut book);
+    run(&mut input, &mut store, &mut book);
 }

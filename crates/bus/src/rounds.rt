@@ -7,23 +7,19 @@ use crate::words;
 use ends::CHIP;
 use ends::DESK;
 use ends::Ends;
-use ends::Slots;
-use ends::line::Line;
+use ends::Store;
 use ends::moves::Move;
 use ends::rounds;
 use ends::rounds::MOVES;
-use text::lay;
 use text::lay::from_u32;
 ghost use Prim.Native.Nat.{_<_};
 
 // ---- a round
 
 fn begun(s: Story) -> Story {
-    let ends = rounds::begun(s.ends);
-    lay::say(b"[%] -- round %", &[from_u32(ends.clock), ends.rounds]);
-    let mut k = s;
-    k.ends = ends;
-    k
+    let p = rounds::begun(s.ends);
+    words::line(words::ROUND, from_u32(p.clock), p.rounds, 0);
+    book::with_ends(s, p)
 }
 
 fn left_after(m: Move, left: u64) -> u64
@@ -33,13 +29,13 @@ fn left_after(m: Move, left: u64) -> u64
     if rounds::is_over(m) { 0 } else { left - 1 }
 }
 
-fn play_round(s: Story, slots: &mut Slots, wire: &mut Line, book: &mut Book) -> Story {
+fn play_round(s: Story, store: &mut Store, book: &mut Book) -> Story {
     let mut k = begun(s);
     let mut is_carrying = true;
     let mut left = MOVES;
     while 0 < left {
         let m = rounds::next(k.ends, is_carrying);
-        k = deeds::play(k, m, slots, wire, book, b"");
+        k = deeds::play(k, m, store, book, b"");
         is_carrying = rounds::is_carry(m);
         left = left_after(m, left);
     }
@@ -55,7 +51,7 @@ fn is_delivered(s: Story) -> bool {
     at_chip & at_desk
 }
 
-// Which of tell_settled's templates the story has.
+// Which of the four lines behind words::SETTLED the story has.
 fn settled_place(s: Story) -> usize {
     if rounds::is_lost(s.ends) {
         return 0;
@@ -68,12 +64,11 @@ fn settled_place(s: Story) -> usize {
 
 fn tell_settled(s: Story, before: Ends) {
     let p = s.ends;
-    let rounds = std::num::wrapping_sub_u64(p.rounds, before.rounds);
-    let ms = std::num::wrapping_sub_u64(p.passed, before.passed);
-    words::say_chosen(
-        b"[%] -- a link is lost; timer rounds: %, milliseconds: %|[%] -- all is through; timer rounds: %, milliseconds: %|[%] -- nothing waits any more; timer rounds: %, milliseconds: %|[%] -- not all is through; timer rounds: %, milliseconds: %",
-        settled_place(s),
-        &[from_u32(p.clock), rounds, ms],
+    words::line(
+        std::num::wrapping_add_usize(words::SETTLED, settled_place(s)),
+        from_u32(p.clock),
+        std::num::wrapping_sub_u64(p.rounds, before.rounds),
+        std::num::wrapping_sub_u64(p.passed, before.passed),
     );
 }
 
@@ -84,32 +79,19 @@ fn is_done(p: Ends) -> bool {
     rounds::is_settled(p) | rounds::is_lost(p)
 }
 
-fn play_unless_done(
-    s: Story,
-    to_the_end: bool,
-    slots: &mut Slots,
-    wire: &mut Line,
-    book: &mut Book,
-) -> Story {
+fn play_unless_done(s: Story, to_the_end: bool, store: &mut Store, book: &mut Book) -> Story {
     if to_the_end & is_done(s.ends) {
         return s;
     }
-    play_round(s, slots, wire, book)
+    play_round(s, store, book)
 }
 
 // The story after so many rounds; to_the_end: after no more of them than bring all through, and how many they were.
-pub fn play(
-    s: Story,
-    count: u64,
-    to_the_end: bool,
-    slots: &mut Slots,
-    wire: &mut Line,
-    book: &mut Book,
-) -> Story {
+pub fn play(s: Story, count: u64, to_the_end: bool, store: &mut Store, book: &mut Book) -> Story {
     let mut k = s;
     let mut left = count;
     while 0 < left {
-        k = play_unless_done(k, to_the_end, slots, wire, book);
+        k = play_unless_done(k, to_the_end, store, book);
         left -= 1;
     }
     if to_the_end {

@@ -8,15 +8,13 @@ use crate::order;
 use crate::order::Order;
 use crate::rounds;
 use crate::words;
-use crate::words::LINE;
 use ends::CHIP;
 use ends::DESK;
 use ends::Ends;
-use ends::Slots;
 use ends::Started;
+use ends::Store;
 use ends::line;
 use ends::line::FRAME;
-use ends::line::Line;
 use ends::line::PLACES;
 use ends::moves::Call;
 use ends::moves::Move;
@@ -24,16 +22,17 @@ use ends::rounds::PROMISED;
 use frame::Format;
 use state::Settings;
 use text::field;
-use text::field::Bytes;
 use text::field::MOST_BYTES;
 use text::field::Values;
 use text::field::as_u8;
 use text::field::as_u16;
 use text::field::as_u32;
 use text::lay;
-use text::lay::from_u32;
 use text::lines;
 use text::lines::Reader;
+
+// A text is laid in as many bytes at a time.
+const LINE: usize = 1024;
 
 // ---- a pair
 
@@ -57,32 +56,23 @@ fn new_story(started: Started) -> Story {
 }
 
 // Before the first pair nothing is set, and every call answers so.
-pub fn beginning(slots: &Slots) -> Story {
+pub fn beginning(store: &Store) -> Story {
     let nothing = settings_of([0; field::FIELDS]);
-    new_story(ends::start(nothing, 0, slots))
-}
-
-fn add_settings(out: &mut [u8], v: Values) -> usize {
-    lay::add_filled(
-        out,
-        0,
-        b"[%] the desk and the chip start: D %, window %, a packet again after % ms, at most % times, an acknowledgement after % ms",
-        &[v[5], v[0], v[1], v[2], v[4], v[3]],
-    )
+    new_story(ends::start(nothing, 0, store))
 }
 
 fn tell_start(v: Values, answer: u8) {
-    let mut out = [0u8; LINE];
-    let mut at = add_settings(&mut out, v);
-    at = words::add_answer(&mut out, at, answer);
-    lay::end_line(&mut out, at);
+    words::clock(as_u32(v[5]));
+    words::settings(&[v[0], v[1], v[2], v[4], v[3]]);
+    words::answer(answer);
+    words::end_line();
 }
 
 // The story so far has its ending, and another begins. After `end` it is the one before any pair: nothing is set.
-fn next_story(book: &Book, slots: &Slots, s: Story, o: Order) -> Story {
+fn next_story(book: &Book, store: &Store, s: Story, o: Order) -> Story {
     ending::tell(book, s);
     let v = o.values;
-    let started = ends::start(settings_of(v), as_u32(v[5]), slots);
+    let started = ends::start(settings_of(v), as_u32(v[5]), store);
     if o.verb == order::PAIR {
         tell_start(v, started.answer);
     }
@@ -92,11 +82,10 @@ fn next_story(book: &Book, slots: &Slots, s: Story, o: Order) -> Story {
 // ---- frames on their way
 
 fn tell_none(clock: u32, sender: usize) {
-    words::say_chosen(
-        b"[%] no such frame is on its way from the desk|[%] no such frame is on its way from the chip",
-        sender,
-        &[from_u32(clock)],
-    );
+    words::clock(clock);
+    words::fate(words::NOT_THERE);
+    words::name(sender);
+    words::end_line();
 }
 
 // Whether so many frames are on their way from the sender; where they are not, that is told.
@@ -109,77 +98,68 @@ fn is_there(p: Ends, sender: usize, number: u64) -> bool {
     false
 }
 
-// Places of the words for what becomes of a frame.
-const LOST: usize = 0;
-
-const STAYS: usize = 1;
-
-const DAMAGED: usize = 2;
-
-fn add_fate(out: &mut [u8], at: usize, sender: usize, fate: usize) -> usize {
-    words::add_nth(
-        out,
-        at,
-        b" from the desk is lost| from the desk stays: no frame has over 1024 bytes| from the desk is damaged: now | from the chip is lost| from the chip stays: no frame has over 1024 bytes| from the chip is damaged: now ",
-        sender % 2 * 3 + fate % 3,
-    )
-}
-
-fn add_change(out: &mut [u8], at: usize, fate: usize, format: Format, bytes: &[u8]) -> usize {
-    if fate == DAMAGED {
-        return words::add_frame(out, at, format, bytes);
-    }
-    at
-}
-
-// Tells what becomes of frame n on its way from the sender. bytes: what it is now, if it is damaged.
-fn tell_fate(wire: &Line, p: Ends, sender: usize, n: usize, fate: usize, bytes: &[u8]) {
+// Tells which frame something becomes of, and what.
+fn tell_fate(store: &Store, p: Ends, sender: usize, n: usize, fate: usize) {
     let l = ends::link_of(p, sender);
-    let mut out = [0u8; LINE];
-    let mut at = lay::add_filled(&mut out, 0, b"[%] ", &[from_u32(p.clock)]);
-    at = words::add_frame_at(&mut out, at, wire, p, ends::other(sender), n);
-    at = add_fate(&mut out, at, sender, fate);
-    at = add_change(&mut out, at, fate, l.settings.format, bytes);
-    lay::end_line(&mut out, at);
+    words::clock(p.clock);
+    words::frame(
+        l.settings.format,
+        line::frame_at(store, p, ends::other(sender), n),
+    );
+    words::fate(words::FROM);
+    words::name(sender);
+    words::fate(fate);
 }
 
 fn fate_of(count: usize) -> usize {
-    if FRAME < count { STAYS } else { DAMAGED }
+    if FRAME < count {
+        words::STAYS
+    } else {
+        words::DAMAGED
+    }
+}
+
+// What a damaged frame is now.
+fn tell_damaged(p: Ends, sender: usize, bytes: &[u8]) {
+    let l = ends::link_of(p, sender);
+    if bytes.len() <= FRAME {
+        words::frame(l.settings.format, bytes);
+    }
+    words::end_line();
 }
 
 // The promises speak of damage that step 1 refuses; here any will do.
-fn damage(p: Ends, sender: usize, wire: &mut Line, n: usize, read: &Bytes, count: usize) {
-    let bytes = line::bytes_at(read, 0, count);
-    tell_fate(wire, p, sender, n, fate_of(count), bytes);
-    line::damage(p, ends::other(sender), wire, n, bytes);
+fn damage(p: Ends, sender: usize, store: &mut Store, n: usize, bytes: &[u8]) {
+    tell_fate(store, p, sender, n, fate_of(bytes.len()));
+    tell_damaged(p, sender, bytes);
+    line::damage(p, ends::other(sender), store, n, bytes);
 }
 
-fn damage_by(p: Ends, o: Order, wire: &mut Line, n: usize, line: &[u8]) {
+// The bytes were read to see that the line is right; they are read again here, where they serve, so that no other command is lent them.
+fn damage_by(p: Ends, o: Order, store: &mut Store, n: usize, line: &[u8]) {
     let mut bytes = [0u8; MOST_BYTES];
     let at = std::num::wrapping_sub_usize(o.rest, 1);
     let fields = field::read_all(line, at, &[field::U32, field::BYTES], 2, &mut bytes);
     let v = fields.values;
-    damage(p, o.end, wire, n, &bytes, v[1] as usize);
+    damage(p, o.end, store, n, line::bytes_at(&bytes, 0, v[1] as usize));
 }
 
-fn lose(s: Story, sender: usize, wire: &mut Line, n: usize) -> Story {
-    tell_fate(wire, s.ends, sender, n, LOST, b"");
-    let left = line::lose(s.ends, ends::other(sender), wire, n);
-    let mut k = s;
-    k.ends = left;
-    k
+fn lose(s: Story, sender: usize, store: &mut Store, n: usize) -> Story {
+    tell_fate(store, s.ends, sender, n, words::LOST);
+    words::end_line();
+    book::with_ends(s, line::lose(s.ends, ends::other(sender), store, n))
 }
 
-fn harm(s: Story, o: Order, line: &[u8], wire: &mut Line) -> Story {
+fn harm(s: Story, o: Order, line: &[u8], store: &mut Store) -> Story {
     let v = o.values;
     if is_there(s.ends, o.end, v[0]) == false {
         return s;
     }
     let n = std::num::wrapping_sub_u64(v[0], 1) as usize;
     if o.verb == order::LOSE {
-        return lose(s, o.end, wire, n);
+        return lose(s, o.end, store, n);
     }
-    damage_by(s.ends, o, wire, n, line);
+    damage_by(s.ends, o, store, n, line);
     s
 }
 
@@ -187,11 +167,10 @@ fn harm(s: Story, o: Order, line: &[u8], wire: &mut Line) -> Story {
 
 // The end's packet is one more than a story keeps.
 fn tell_full(clock: u32, end: usize) -> Move {
-    words::say_chosen(
-        b"[%] the desk has taken 64 packets, and a story keeps no more|[%] the chip has taken 64 packets, and a story keeps no more",
-        end,
-        &[from_u32(clock)],
-    );
+    words::clock(clock);
+    words::name(end);
+    words::fate(words::FULL);
+    words::end_line();
     Move::Over
 }
 
@@ -252,71 +231,53 @@ fn rounds_of(o: Order) -> u64 {
     times(v[0])
 }
 
-// What a command does that moves nothing.
-fn tell(s: Story, o: Order, line: &[u8], wire: &Line) {
+// However long the text is.
+fn tell(line: &[u8], rest: usize) {
     let mut out = [0u8; LINE];
-    if o.verb == order::TELL {
-        let at = lay::add_printable(&mut out, 0, order::rest_of(line, o.rest));
-        lay::end_line(&mut out, at);
-    }
-    if o.verb == order::SHOW {
-        ending::show(wire, s.ends, DESK);
-        ending::show(wire, s.ends, CHIP);
-    }
+    let at = lay::add_printable(&mut out, 0, order::rest_of(line, rest));
+    lay::end_line(&mut out, at);
 }
 
-fn obey_moves(
-    s: Story,
-    o: Order,
-    line: &[u8],
-    slots: &mut Slots,
-    wire: &mut Line,
-    book: &mut Book,
-) -> Story {
+fn show(store: &Store, p: Ends) {
+    ending::show(store, p, DESK);
+    ending::show(store, p, CHIP);
+}
+
+fn obey_moves(s: Story, o: Order, line: &[u8], store: &mut Store, book: &mut Book) -> Story {
     if (o.verb == order::ROUND) | (o.verb == order::SETTLE) {
-        return rounds::play(s, rounds_of(o), o.verb == order::SETTLE, slots, wire, book);
+        return rounds::play(s, rounds_of(o), o.verb == order::SETTLE, store, book);
     }
     let packet = order::rest_of(line, o.rest);
-    deeds::repeat(s, move_of(s, o), times_of(o), slots, wire, book, packet)
+    deeds::repeat(s, move_of(s, o), times_of(o), store, book, packet)
 }
 
-fn obey(
-    s: Story,
-    o: Order,
-    line: &[u8],
-    slots: &mut Slots,
-    wire: &mut Line,
-    book: &mut Book,
-) -> Story {
+fn obey(s: Story, o: Order, line: &[u8], store: &mut Store, book: &mut Book) -> Story {
     let verb = o.verb;
     match verb {
-        order::PAIR | order::END => next_story(book, slots, s, o),
-        order::LOSE | order::DAMAGE => harm(s, o, line, wire),
-        order::TELL | order::SHOW => {
-            tell(s, o, line, wire);
+        order::PAIR | order::END => next_story(book, store, s, o),
+        order::LOSE | order::DAMAGE => harm(s, o, line, store),
+        order::TELL => {
+            tell(line, o.rest);
             s
         }
-        _ => obey_moves(s, o, line, slots, wire, book),
+        order::SHOW => {
+            show(store, s.ends);
+            s
+        }
+        _ => obey_moves(s, o, line, store, book),
     }
 }
 
 // Whether the line is no command, which is told.
 fn is_bad(number: u64, is_so: bool) -> bool {
     if is_so {
-        lay::say(b"bad line %", &[number]);
+        words::line(words::BAD, number, 0, 0);
     }
     is_so
 }
 
 // The story after the line that the reader is at, if it is at one.
-pub fn obey_line(
-    input: &[u8],
-    r: Reader,
-    slots: &mut Slots,
-    wire: &mut Line,
-    book: &mut Book,
-    s: Story,
-) -> Story {
+pub fn obey_line(input: &[u8], r: Reader, store: &mut Store, book: &mut Book, s: Story) -> Story {
     let line = line::bytes_at(input, r.start, std::num::wrapping_sub_usize(r.end, r.start));
     if (r.is_given == false) | lines::is_silent(line) {
         return s;
@@ -325,5 +286,5 @@ pub fn obey_line(
     if is_bad(r.number, r.is_long | (o.good == false)) {
         return s;
     }
-    obey(s, o, line, slots, wire, book)
+    obey(s, o, line, store, book)
 }

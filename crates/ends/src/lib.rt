@@ -13,12 +13,13 @@ pub const DESK: usize = 0;
 pub const CHIP: usize = 1;
 
 // Two slots of the longest packet, and more.
-pub const SLOT: usize = 2048;
+const SLOTS: usize = 2048;
 
-pub const SLOTS: usize = 4096;
+pub const STORE: usize = 136450;
 
-// What the two links keep of their waiting packets: the desk's slots, and the chip's behind them.
-pub type Slots = [u8; SLOTS];
+// All bytes of the two ends and of what is between them: the desk's slots, the chip's, the frames on their way to the desk, those to the
+// chip, and a spare place. One store, in which an end has its offset, is lent to a move whichever end it is at.
+pub type Store = [u8; STORE];
 
 // first, queue: where in their ring the frames on their way to the end begin, and how many they are. dropped: how many packets that it
 // took a reset has dropped.
@@ -69,10 +70,10 @@ pub fn with_end(p: Ends, end: usize, e: End) -> Ends {
 }
 
 // Where the end's slots begin.
-fn slot_of(end: usize) -> usize
+fn slots_of(end: usize) -> usize
     ensures { λ r. ⌜ r ≤ 2048 ⌝ }
 {
-    if end == DESK { 0 } else { SLOT }
+    if end == DESK { 0 } else { SLOTS }
 }
 
 // ---- the start of both
@@ -104,8 +105,8 @@ fn new_ends(link: Link, clock: u32) -> Ends {
 }
 
 // Both ends started with these settings: where a setting is out of range they are zeros, and answer so to every call.
-pub fn start(s: Settings, clock: u32, slots: &Slots) -> Started {
-    let o = link::start(s, slots);
+pub fn start(s: Settings, clock: u32, store: &Store) -> Started {
+    let o = link::start(s, store);
     Started {
         ends: new_ends(o.state, clock),
         answer: o.answer,

@@ -1,7 +1,8 @@
-// The frames on their way: to each end a ring of 64 places, each with a length and the bytes behind it.
+// The frames on their way: to each end a ring of 64 places in the store, each with a length and the bytes behind it.
 use crate::DESK;
 use crate::End;
 use crate::Ends;
+use crate::Store;
 use crate::end_of;
 use crate::with_end;
 ghost use Prim.Native.Nat.{_+_, _≤_};
@@ -16,34 +17,31 @@ pub const PLACES: usize = 64;
 // A place: a length in two bytes, and the longest frame.
 pub const PLACE: usize = 1026;
 
-const RING: usize = 65664;
+// Where in the store the rings begin, and the place at which a frame is laid that has none in a full ring.
+const TO_DESK: usize = 4096;
 
-// Behind both rings: where a frame is laid for which there is no place.
-const SPARE: usize = 131328;
+const TO_CHIP: usize = 69760;
 
-pub const LINE: usize = 132354;
-
-// The ring to the desk, the ring to the chip, and the spare place.
-pub type Line = [u8; LINE];
+const SPARE: usize = 135424;
 
 // ---- places
 
 fn ring_of(end: usize) -> usize
-    ensures { λ r. ⌜ r ≤ 65664 ⌝ }
+    ensures { λ r. ⌜ r ≤ 69760 ⌝ }
 {
-    if end == DESK { 0 } else { RING }
+    if end == DESK { TO_DESK } else { TO_CHIP }
 }
 
-// Where in the line the place is that is n behind the first of a ring.
+// Where the place is that is n behind the first of a ring.
 fn place_of(end: usize, first: usize, n: usize) -> usize
-    ensures { λ r. ⌜ r ≤ 130302 ⌝ }
+    ensures { λ r. ⌜ r ≤ 134398 ⌝ }
 {
     ring_of(end) + (first % PLACES + n % PLACES) % PLACES * PLACE
 }
 
 // Where the next frame to the end is laid.
 pub fn free_place(p: Ends, end: usize) -> usize
-    ensures { λ r. ⌜ r ≤ 131328 ⌝ }
+    ensures { λ r. ⌜ r ≤ 135424 ⌝ }
 {
     let e = end_of(p, end);
     if e.queue < PLACES {
@@ -54,7 +52,7 @@ pub fn free_place(p: Ends, end: usize) -> usize
 
 // Where frame n of those on their way to the end begins, its length before it.
 pub fn place_at(p: Ends, end: usize, n: usize) -> usize
-    ensures { λ r. ⌜ r ≤ 130302 ⌝ }
+    ensures { λ r. ⌜ r ≤ 134398 ⌝ }
 {
     let e = end_of(p, end);
     place_of(end, e.first, n)
@@ -98,9 +96,9 @@ pub fn bytes_at(store: &[u8], at: usize, count: usize) -> &[u8] {
 }
 
 // Frame n of those on their way to the end.
-pub fn frame_at(line: &Line, p: Ends, end: usize, n: usize) -> &[u8] {
+pub fn frame_at(store: &Store, p: Ends, end: usize, n: usize) -> &[u8] {
     let place = place_at(p, end, n);
-    bytes_at(line, place + 2, length_at(line, place))
+    bytes_at(store, place + 2, length_at(store, place))
 }
 
 // Lays bytes at that place of a store, if they are not too many.
@@ -134,46 +132,46 @@ pub fn without_first(e: End) -> End {
 
 // ---- losing and damaging
 
-fn move_bytes(line: &mut Line, from: usize, to: usize)
-    requires { ⌜ (from ≤ 130302) × (to ≤ 130302) ⌝ }
+fn move_bytes(store: &mut Store, from: usize, to: usize)
+    requires { ⌜ (from ≤ 134398) × (to ≤ 134398) ⌝ }
 {
     let mut i: usize = 0;
     while i < PLACE {
-        line[to + i] = line[from + i];
+        store[to + i] = store[from + i];
         i += 1;
     }
 }
 
 // The frames behind frame n move up by a place.
-fn close_up(line: &mut Line, end: usize, first: usize, n: usize, last: usize) {
+fn close_up(store: &mut Store, end: usize, first: usize, n: usize, last: usize) {
     let mut k = n;
     while k < last {
         let to = place_of(end, first, k);
         k += 1;
-        move_bytes(line, place_of(end, first, k), to);
+        move_bytes(store, place_of(end, first, k), to);
     }
 }
 
 // The end without frame n of those on their way to it. Where it is the first or the last, nothing is copied.
-fn without(e: End, end: usize, line: &mut Line, n: usize) -> End {
+fn without(e: End, end: usize, store: &mut Store, n: usize) -> End {
     if n == 0 {
         return without_first(e);
     }
     let last = std::num::wrapping_sub_usize(e.queue, 1);
-    close_up(line, end, e.first, n, last);
+    close_up(store, end, e.first, n, last);
     with_queue(e, e.first, last)
 }
 
 // Frame n of those on their way to the end is lost, if it is there.
-pub fn lose(p: Ends, end: usize, line: &mut Line, n: usize) -> Ends {
+pub fn lose(p: Ends, end: usize, store: &mut Store, n: usize) -> Ends {
     let e = end_of(p, end);
     if n < e.queue {
-        return with_end(p, end, without(e, end, line, n));
+        return with_end(p, end, without(e, end, store, n));
     }
     p
 }
 
 // Frame n of those on their way to the end becomes these bytes, if a frame can have so many.
-pub fn damage(p: Ends, end: usize, line: &mut Line, n: usize, bytes: &[u8]) {
-    put(line, place_at(p, end, n), bytes);
+pub fn damage(p: Ends, end: usize, store: &mut Store, n: usize, bytes: &[u8]) {
+    put(store, place_at(p, end, n), bytes);
 }

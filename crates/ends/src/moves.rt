@@ -1,16 +1,15 @@
 // What can happen at an end: a packet is submitted, a frame arrives, a call is made; and the clock goes on.
 use crate::End;
 use crate::Ends;
-use crate::SLOT;
-use crate::Slots;
+use crate::SLOTS;
+use crate::Store;
 use crate::end_of;
 use crate::line;
 use crate::line::FRAME;
-use crate::line::Line;
 use crate::line::PLACES;
 use crate::link_of;
 use crate::other;
-use crate::slot_of;
+use crate::slots_of;
 use crate::with_end;
 use state::Link;
 use state::Outcome;
@@ -33,7 +32,7 @@ pub enum Move {
     Over,
 }
 
-// What came of a move. heard_at: where in the line the frame begins that arrived. sent_at, sent: where the frame begins that was sent,
+// What came of a move. heard_at: where in the store the frame begins that arrived. sent_at, sent: where the frame begins that was sent,
 // and its length; 0 where none was. delivered: how many bytes of a packet, which are those of the frame that arrived from byte 3 on.
 // dropped: how many waiting packets a reset dropped. is_crowded: what was sent is lost, since 64 frames are on their way already.
 pub struct Event {
@@ -106,11 +105,37 @@ fn after(p: Ends, end: usize, o: Outcome, heard_at: usize, sent_at: usize) -> Mo
     }
 }
 
-// ---- calls
+// ---- a call
 
-fn call_with(
-    l: Link,
+// What was sent is laid at its place, if anything was.
+fn send(store: &mut Store, place: usize, frame: &[u8], sent: usize)
+    requires { ⌜ place ≤ 135424 ⌝ }
+{
+    if sent == 0 {
+        return;
+    }
+    if sent <= frame.len() {
+        line::put(store, place, &frame[0..sent]);
+    }
+}
+
+// The ends after a call at one of them, with the frame that it sent on its way.
+fn sent_on(
+    p: Ends,
+    end: usize,
+    o: Outcome,
+    heard_at: usize,
+    store: &mut Store,
+    frame: &[u8],
+) -> Moved {
+    let place = line::free_place(p, other(end));
+    send(store, place, frame, o.sent as usize);
+    after(p, end, o, heard_at, place + 2)
+}
+
+fn outcome_of(
     call: Call,
+    l: Link,
     slots: &mut [u8],
     frame: &mut [u8],
     ms: u32,
@@ -118,122 +143,90 @@ fn call_with(
 ) -> Outcome {
     match call {
         Call::Submit => link::submit(l, slots, frame, ms, packet),
-        Call::Look => {
-            let looked = link::look(l, slots, frame, ms);
-            looked.outcome
-        }
+        Call::Look => look(l, slots, frame, ms),
         Call::Acknowledge => link::acknowledge(l, slots, frame, ms),
         Call::Resynchronise => link::resynchronise(l, slots, frame, ms),
     }
 }
 
+fn look(l: Link, slots: &[u8], frame: &mut [u8], ms: u32) -> Outcome {
+    let looked = link::look(l, slots, frame, ms);
+    looked.outcome
+}
+
 fn call_at(
-    l: Link,
     call: Call,
-    slots: &mut [u8],
-    slot: usize,
-    line: &mut [u8],
-    at: usize,
+    l: Link,
+    store: &mut [u8],
+    from: usize,
+    frame: &mut [u8],
     ms: u32,
     packet: &[u8],
 ) -> Outcome
-    requires { ⌜ (slot + 2048 ≤ length (now slots)) × (at + 1024 ≤ length (now line)) ⌝ }
+    requires { ⌜ from + 2048 ≤ length (now store) ⌝ }
 {
-    let slots_end = slot + SLOT;
-    let frame_end = at + FRAME;
-    call_with(
-        l,
-        call,
-        &mut slots[slot..slots_end],
-        &mut line[at..frame_end],
-        ms,
-        packet,
-    )
+    let end = from + SLOTS;
+    outcome_of(call, l, &mut store[from..end], frame, ms, packet)
 }
 
-// The frame is made on its place in the line.
-fn make_call(
-    p: Ends,
-    end: usize,
-    call: Call,
-    slots: &mut Slots,
-    line: &mut Line,
-    packet: &[u8],
-) -> Moved {
-    let place = line::free_place(p, other(end));
-    let l = link_of(p, end);
-    let slot = slot_of(end);
-    let at = place + 2;
-    let o = call_at(l, call, slots, slot, line, at, p.clock, packet);
-    line::set_length(line, place, o.sent as usize);
-    after(p, end, o, 0, at)
+fn make_call(p: Ends, end: usize, call: Call, store: &mut Store, packet: &[u8]) -> Moved {
+    let mut frame = [0u8; FRAME];
+    let from = slots_of(end);
+    let o = call_at(
+        call,
+        link_of(p, end),
+        store,
+        from,
+        &mut frame,
+        p.clock,
+        packet,
+    );
+    sent_on(p, end, o, 0, store, &frame)
 }
 
 // ---- a frame arrives
 
 fn take_at(
     l: Link,
-    slots: &[u8],
-    slot: usize,
+    store: &[u8],
+    from: usize,
     frame: &mut [u8],
     ms: u32,
-    line: &[u8],
     at: usize,
     count: usize,
 ) -> Outcome
-    requires { ⌜ (slot + 2048 ≤ length (now slots)) × (at + count ≤ length (now line)) ⌝ }
+    requires { ⌜ (from + 2048 ≤ length (now store)) × (at + count ≤ length (now store)) ⌝ }
 {
-    let slots_end = slot + SLOT;
+    let slots_end = from + SLOTS;
     let received_end = at + count;
     link::take(
         l,
-        &slots[slot..slots_end],
+        &store[from..slots_end],
         frame,
         ms,
-        &line[at..received_end],
+        &store[at..received_end],
     )
 }
 
-// What a take sent is laid in the line, if it sent anything.
-fn send(line: &mut Line, place: usize, frame: &[u8], sent: usize)
-    requires { ⌜ place ≤ 131328 ⌝ }
-{
-    if sent == 0 {
-        return;
-    }
-    if sent <= frame.len() {
-        line::put(line, place, &frame[0..sent]);
-    }
-}
-
 // The frame at that place arrives at the end.
-fn take(p: Ends, end: usize, slots: &Slots, line: &mut Line, from: usize) -> Moved
-    requires { ⌜ from ≤ 130302 ⌝ }
+fn take(p: Ends, end: usize, store: &mut Store, place: usize) -> Moved
+    requires { ⌜ place ≤ 134398 ⌝ }
 {
     let mut frame = [0u8; FRAME];
-    let l = link_of(p, end);
-    let slot = slot_of(end);
-    let at = from + 2;
-    let count = line::length_at(line, from);
-    let o = take_at(l, slots, slot, &mut frame, p.clock, line, at, count);
-    let place = line::free_place(p, other(end));
-    send(line, place, &frame, o.sent as usize);
-    after(p, end, o, at, place + 2)
+    let from = slots_of(end);
+    let at = place + 2;
+    let count = line::length_at(store, place);
+    let o = take_at(link_of(p, end), store, from, &mut frame, p.clock, at, count);
+    sent_on(p, end, o, at, store, &frame)
 }
 
-fn carry(p: Ends, end: usize, slots: &Slots, line: &mut Line) -> Moved {
+fn carry(p: Ends, end: usize, store: &mut Store) -> Moved {
     let e = end_of(p, end);
     if e.queue == 0 {
         return unmoved(p);
     }
-    let from = line::place_at(p, end, 0);
-    take(
-        with_end(p, end, line::without_first(e)),
-        end,
-        slots,
-        line,
-        from,
-    )
+    let place = line::place_at(p, end, 0);
+    take(with_end(p, end, line::without_first(e)), end, store, place)
 }
 
 // ---- the clock
@@ -249,10 +242,10 @@ pub fn pass(p: Ends, ms: u32) -> Ends {
 // ---- every move
 
 // The ends after a move, and what came of it. packet: what a submit is handed; no other move reads it.
-pub fn make(p: Ends, m: Move, slots: &mut Slots, line: &mut Line, packet: &[u8]) -> Moved {
+pub fn make(p: Ends, m: Move, store: &mut Store, packet: &[u8]) -> Moved {
     match m {
-        Move::Carry(end) => carry(p, end, slots, line),
-        Move::Call(call, end) => make_call(p, end, call, slots, line, packet),
+        Move::Carry(end) => carry(p, end, store),
+        Move::Call(call, end) => make_call(p, end, call, store, packet),
         Move::Pass(ms) => unmoved(pass(p, ms)),
         Move::Over => unmoved(p),
     }

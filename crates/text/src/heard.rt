@@ -1,4 +1,5 @@
 // The name of a frame, as an end hears it.
+use crate::lay;
 use crate::lay::add_chosen;
 use frame::Heard;
 
@@ -49,4 +50,11 @@ pub fn add_heard(out: &mut [u8], at: usize, h: Heard) -> usize {
         n.place,
         &numbers,
     )
+}
+
+// Writes what was heard.
+pub fn write_heard(h: Heard) {
+    let mut out = [0u8; 32];
+    let at = add_heard(&mut out, 0, h);
+    lay::write_out(&out, at);
 }

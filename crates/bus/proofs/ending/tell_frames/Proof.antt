@@ -1,0 +1,15 @@
+-- `bus::ending::tell_frames` is safe and ends.
+-- Assumes nothing.
+use Prim.Native.Nat.{_-_}
+use borrow.Author.Needs.{needs}
+use Rattle.bus.proofs.ending.tell_frames.Statement.{statement}
+use Rattle.bus.proofs.ending.tell_frames.Tie as tie
+
+abbrev Inv-loop : tie.InvT-loop
+Inv-loop store p end count n₀ n = Unit {0}
+
+abbrev μ-loop : tie.MeasureT-loop
+μ-loop store p end count n₀ n = count - n
+
+pub tell-frames-spec : {M : Type 1} → statement M
+tell-frames-spec = tie.close (tie.spec Inv-loop μ-loop (λ c. search needs) (λ c κs. search needs) (λ c. search needs) (λ c. search needs) (λ c. search needs) (λ c. search needs))
