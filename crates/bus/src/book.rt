@@ -11,11 +11,29 @@ pub const BOOK: usize = 262656;
 
 pub type Book = [u8; BOOK];
 
-// counts: how many packets stand on each shelf. has_pair: there is a pair whose ending is not told.
+// How many packets stand on each shelf.
+pub struct Counts {
+    pub desk_took: usize,
+    pub chip_took: usize,
+    pub desk_got: usize,
+    pub chip_got: usize,
+}
+
+// has_pair: there is a pair whose ending is not told.
 pub struct Story {
     pub ends: Ends,
-    pub counts: [usize; SHELVES],
+    pub counts: Counts,
     pub has_pair: bool,
+}
+
+// Nothing on any shelf.
+pub fn no_counts() -> Counts {
+    Counts {
+        desk_took: 0,
+        chip_took: 0,
+        desk_got: 0,
+        chip_got: 0,
+    }
 }
 
 // The story with its ends as they are now.
@@ -35,10 +53,30 @@ pub fn got_at(end: usize) -> usize {
     2 + end % 2
 }
 
+fn count_in(c: Counts, shelf: usize) -> usize {
+    match shelf {
+        0 => c.desk_took,
+        1 => c.chip_took,
+        2 => c.desk_got,
+        _ => c.chip_got,
+    }
+}
+
 // How many packets stand on the shelf.
 pub fn count_of(s: Story, shelf: usize) -> usize {
-    let i = shelf % SHELVES;
-    s.counts[i]
+    count_in(s.counts, shelf)
+}
+
+fn with_one_more(c: Counts, shelf: usize) -> Counts {
+    let more = std::num::wrapping_add_usize(count_in(c, shelf), 1);
+    let mut k = c;
+    match shelf {
+        0 => k.desk_took = more,
+        1 => k.chip_took = more,
+        2 => k.desk_got = more,
+        _ => k.chip_got = more,
+    }
+    k
 }
 
 fn place_of(shelf: usize, n: usize) -> usize
@@ -60,9 +98,9 @@ pub fn keep(s: Story, book: &mut Book, shelf: usize, packet: &[u8]) -> Story {
         return s;
     }
     line::put(book, place_of(shelf, count), packet);
-    let i = shelf % SHELVES;
+    let counts = with_one_more(s.counts, shelf);
     let mut k = s;
-    k.counts[i] = std::num::wrapping_add_usize(count, 1);
+    k.counts = counts;
     k
 }
 

@@ -37,7 +37,6 @@ const NONE: usize = 5;
 
 fn verb_of(call: Call) -> usize {
     match call {
-        Call::Submit => SUBMITS,
         Call::Look => LOOKS,
         Call::Acknowledge => ACKNOWLEDGES,
         Call::Resynchronise => RESYNCHRONISES,
@@ -48,6 +47,7 @@ fn verb_of(call: Call) -> usize {
 fn deed_of(m: Move) -> Deed {
     match m {
         Move::Carry(end) => Deed { verb: HEARS, end },
+        Move::Submit(end) => Deed { verb: SUBMITS, end },
         Move::Call(call, end) => Deed {
             verb: verb_of(call),
             end,

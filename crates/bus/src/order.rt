@@ -10,7 +10,6 @@ use text::field::SPACE;
 use text::field::U8;
 use text::field::U16;
 use text::field::U32;
-use text::field::Values;
 
 // The commands, in the order of verb_of's words: those on the whole bus, then those at an end.
 pub const PAIR: usize = 0;
@@ -45,9 +44,9 @@ pub const RESYNCHRONISE: usize = 14;
 
 const UNKNOWN: usize = 15;
 
-// The text of submit and tell begins at `rest`.
+// number: the first of its fields, 0 where it has none. rest: where what stands behind the word and the end's name begins.
 pub struct Order {
-    pub values: Values,
+    pub number: u64,
     pub rest: usize,
     pub verb: usize,
     pub end: usize,
@@ -135,9 +134,8 @@ fn fields_of(line: &[u8], at: usize, verb: usize) -> Fields {
 
 fn order_at(line: &[u8], at: usize, verb: usize, end: usize) -> Order {
     let fields = fields_of(line, at, verb);
-    let values = fields.values;
     Order {
-        values,
+        number: fields.values[0],
         rest: std::num::wrapping_add_usize(at, 1),
         verb,
         end,

@@ -23,6 +23,9 @@ use frame::Format;
 use state::Settings;
 use text::field;
 use text::field::MOST_BYTES;
+use text::field::U8;
+use text::field::U16;
+use text::field::U32;
 use text::field::Values;
 use text::field::as_u8;
 use text::field::as_u16;
@@ -50,7 +53,7 @@ fn new_story(started: Started) -> Story {
     let ends = started.ends;
     Story {
         ends,
-        counts: [0; 4],
+        counts: book::no_counts(),
         has_pair: started.answer == base::answer::DONE,
     }
 }
@@ -68,15 +71,26 @@ fn tell_start(v: Values, answer: u8) {
     words::end_line();
 }
 
-// The story so far has its ending, and another begins. After `end` it is the one before any pair: nothing is set.
-fn next_story(book: &Book, store: &Store, s: Story, o: Order) -> Story {
-    ending::tell(book, s);
-    let v = o.values;
+// A pair's fields: they were read to see that the line is right, and are read again here, where they serve.
+fn pair_of(line: &[u8], rest: usize) -> Values {
+    let at = std::num::wrapping_sub_usize(rest, 1);
+    let fields = field::read_all(line, at, &[U16, U8, U16, U16, U8, U32], 5, &mut []);
+    fields.values
+}
+
+fn start(v: Values, store: &Store) -> Story {
     let started = ends::start(settings_of(v), as_u32(v[5]), store);
-    if o.verb == order::PAIR {
-        tell_start(v, started.answer);
-    }
+    tell_start(v, started.answer);
     new_story(started)
+}
+
+// The story so far has its ending, and another begins. After `end` it is the one before any pair: nothing is set.
+fn next_story(book: &Book, store: &Store, s: Story, o: Order, line: &[u8]) -> Story {
+    ending::tell(book, s);
+    if o.verb == order::PAIR {
+        return start(pair_of(line, o.rest), store);
+    }
+    beginning(store)
 }
 
 // ---- frames on their way
@@ -151,11 +165,10 @@ fn lose(s: Story, sender: usize, store: &mut Store, n: usize) -> Story {
 }
 
 fn harm(s: Story, o: Order, line: &[u8], store: &mut Store) -> Story {
-    let v = o.values;
-    if is_there(s.ends, o.end, v[0]) == false {
+    if is_there(s.ends, o.end, o.number) == false {
         return s;
     }
-    let n = std::num::wrapping_sub_u64(v[0], 1) as usize;
+    let n = std::num::wrapping_sub_u64(o.number, 1) as usize;
     if o.verb == order::LOSE {
         return lose(s, o.end, store, n);
     }
@@ -178,7 +191,7 @@ fn submit(s: Story, end: usize) -> Move {
     if PLACES <= book::count_of(s, book::taken_at(end)) {
         return tell_full(s.ends.clock, end);
     }
-    Move::Call(Call::Submit, end)
+    Move::Submit(end)
 }
 
 // Where there are not so many frames, none is carried.
@@ -196,23 +209,21 @@ fn times(n: u64) -> u64 {
 
 // How many times a command has its move made.
 fn times_of(o: Order) -> u64 {
-    let v = o.values;
     if o.verb == order::CARRY {
-        return times(v[0]);
+        return times(o.number);
     }
     1
 }
 
 // The move that a command at an end or of the clock stands for. The clock goes around its end where the moment is less than now.
 fn move_of(s: Story, o: Order) -> Move {
-    let v = o.values;
-    let ms = as_u32(v[0]);
+    let ms = as_u32(o.number);
     let verb = o.verb;
     match verb {
         order::CLOCK => Move::Pass(std::num::wrapping_sub_u32(ms, s.ends.clock)),
         order::WAIT => Move::Pass(ms),
         order::SUBMIT => submit(s, o.end),
-        order::CARRY => carry(s.ends, o.end, times(v[0])),
+        order::CARRY => carry(s.ends, o.end, times(o.number)),
         order::LOOK => Move::Call(Call::Look, o.end),
         order::ACKNOWLEDGE => Move::Call(Call::Acknowledge, o.end),
         order::RESYNCHRONISE => Move::Call(Call::Resynchronise, o.end),
@@ -224,11 +235,10 @@ fn move_of(s: Story, o: Order) -> Move {
 
 // How many rounds a command asks for.
 fn rounds_of(o: Order) -> u64 {
-    let v = o.values;
     if o.verb == order::SETTLE {
         return PROMISED;
     }
-    times(v[0])
+    times(o.number)
 }
 
 // However long the text is.
@@ -254,7 +264,7 @@ fn obey_moves(s: Story, o: Order, line: &[u8], store: &mut Store, book: &mut Boo
 fn obey(s: Story, o: Order, line: &[u8], store: &mut Store, book: &mut Book) -> Story {
     let verb = o.verb;
     match verb {
-        order::PAIR | order::END => next_story(book, store, s, o),
+        order::PAIR | order::END => next_story(book, store, s, o, line),
         order::LOSE | order::DAMAGE => harm(s, o, line, store),
         order::TELL => {
             tell(line, o.rest);

@@ -18,15 +18,16 @@ ghost use lib.ListN.{length};
 
 // The calls at an end, but for that by which a frame arrives.
 pub enum Call {
-    Submit,
     Look,
     Acknowledge,
     Resynchronise,
 }
 
-// The first frame on its way to an end arrives there; a call at an end; so many milliseconds pass; or nothing is left to do.
+// The first frame on its way to an end arrives there; a packet is submitted at an end; another call at it; so many milliseconds pass; or
+// nothing is left to do.
 pub enum Move {
     Carry(usize),
+    Submit(usize),
     Call(Call, usize),
     Pass(u32),
     Over,
@@ -133,29 +134,7 @@ fn sent_on(
     after(p, end, o, heard_at, place + 2)
 }
 
-fn outcome_of(
-    call: Call,
-    l: Link,
-    slots: &mut [u8],
-    frame: &mut [u8],
-    ms: u32,
-    packet: &[u8],
-) -> Outcome {
-    match call {
-        Call::Submit => link::submit(l, slots, frame, ms, packet),
-        Call::Look => look(l, slots, frame, ms),
-        Call::Acknowledge => link::acknowledge(l, slots, frame, ms),
-        Call::Resynchronise => link::resynchronise(l, slots, frame, ms),
-    }
-}
-
-fn look(l: Link, slots: &[u8], frame: &mut [u8], ms: u32) -> Outcome {
-    let looked = link::look(l, slots, frame, ms);
-    looked.outcome
-}
-
-fn call_at(
-    call: Call,
+fn submit_at(
     l: Link,
     store: &mut [u8],
     from: usize,
@@ -166,21 +145,40 @@ fn call_at(
     requires { ⌜ from + 2048 ≤ length (now store) ⌝ }
 {
     let end = from + SLOTS;
-    outcome_of(call, l, &mut store[from..end], frame, ms, packet)
+    link::submit(l, &mut store[from..end], frame, ms, packet)
 }
 
-fn make_call(p: Ends, end: usize, call: Call, store: &mut Store, packet: &[u8]) -> Moved {
+fn submit(p: Ends, end: usize, store: &mut Store, packet: &[u8]) -> Moved {
     let mut frame = [0u8; FRAME];
     let from = slots_of(end);
-    let o = call_at(
-        call,
-        link_of(p, end),
-        store,
-        from,
-        &mut frame,
-        p.clock,
-        packet,
-    );
+    let o = submit_at(link_of(p, end), store, from, &mut frame, p.clock, packet);
+    sent_on(p, end, o, 0, store, &frame)
+}
+
+fn look(l: Link, slots: &[u8], frame: &mut [u8], ms: u32) -> Outcome {
+    let looked = link::look(l, slots, frame, ms);
+    looked.outcome
+}
+
+fn outcome_of(call: Call, l: Link, slots: &[u8], frame: &mut [u8], ms: u32) -> Outcome {
+    match call {
+        Call::Look => look(l, slots, frame, ms),
+        Call::Acknowledge => link::acknowledge(l, slots, frame, ms),
+        Call::Resynchronise => link::resynchronise(l, slots, frame, ms),
+    }
+}
+
+fn call_at(call: Call, l: Link, store: &[u8], from: usize, frame: &mut [u8], ms: u32) -> Outcome
+    requires { ⌜ from + 2048 ≤ length (now store) ⌝ }
+{
+    let end = from + SLOTS;
+    outcome_of(call, l, &store[from..end], frame, ms)
+}
+
+fn make_call(p: Ends, end: usize, call: Call, store: &mut Store) -> Moved {
+    let mut frame = [0u8; FRAME];
+    let from = slots_of(end);
+    let o = call_at(call, link_of(p, end), store, from, &mut frame, p.clock);
     sent_on(p, end, o, 0, store, &frame)
 }
 
@@ -245,7 +243,8 @@ pub fn pass(p: Ends, ms: u32) -> Ends {
 pub fn make(p: Ends, m: Move, store: &mut Store, packet: &[u8]) -> Moved {
     match m {
         Move::Carry(end) => carry(p, end, store),
-        Move::Call(call, end) => make_call(p, end, call, store, packet),
+        Move::Submit(end) => submit(p, end, store, packet),
+        Move::Call(call, end) => make_call(p, end, call, store),
         Move::Pass(ms) => unmoved(pass(p, ms)),
         Move::Over => unmoved(p),
     }
