@@ -1,7 +1,10 @@
 // The commands on one joining of messages: their words, their fields, what they do and what they print.
-// A later input goes last in its command's list of fields, and the count behind the list stays: absent means 0. A later output goes last
+// A later input goes last among its command's fields, and the number that are needed stays: absent means 0. A later output goes last
 // in its command's print function.
 use crate::session;
+use crate::session::CHAINING;
+use crate::session::Command;
+use crate::session::Form;
 use crate::session::ROOM;
 use crate::session::Room;
 use crate::session::Session;
@@ -13,8 +16,6 @@ use chain::Piece;
 use text::field;
 use text::field::BYTES;
 use text::field::FLAG;
-use text::field::Fields;
-use text::field::MOST_BYTES;
 use text::field::U16;
 use text::field::U32;
 use text::field::Values;
@@ -30,40 +31,62 @@ ghost use lib.ListN.{length};
 
 // ---- words and fields
 
-const WORDS: [u8; 21] = *b"room joining join cut";
+const WORDS: [u8; 21] = *b"join cut room joining";
 
 // Their places in the list.
-const SET_ROOM: usize = 0;
+const JOIN: usize = 0;
 
-const SET_JOINING: usize = 1;
+const CUT: usize = 1;
 
-const JOIN: usize = 2;
+const SET_ROOM: usize = 2;
 
-const CUT: usize = 3;
+const SET_JOINING: usize = 3;
 
 // The longest packet buffer of cut.
 const PACKET: usize = 1024;
 
-fn fields_of(word: usize, line: &[u8], at: usize, bytes: &mut [u8]) -> Fields {
+const FIELDS: [u64; 9] = [
+    U16, // join LIMIT BYTES
+    BYTES,
+    U16, // cut LIMIT FROM SIZE BYTES
+    U32,
+    PACKET as u64,
+    BYTES,
+    ROOM as u64, // room SIZE
+    FLAG, // joining OPENED LENGTH
+    U16,
+];
+
+fn form_of(word: usize) -> Form {
     match word {
-        SET_ROOM => field::read_all(line, at, &[ROOM as u64], 1, bytes),
-        SET_JOINING => field::read_all(line, at, &[FLAG, U16], 2, bytes),
-        JOIN => field::read_all(line, at, &[U16, BYTES], 2, bytes),
-        _ => field::read_all(line, at, &[U16, U32, PACKET as u64, BYTES], 4, bytes),
+        JOIN => session::fields(0, 2, 2),
+        CUT => session::fields(2, 6, 4),
+        SET_ROOM => session::fields(6, 7, 1),
+        SET_JOINING => session::fields(7, 9, 2),
+        _ => session::no_form(),
     }
+}
+
+// The line as one of these commands, if it is one.
+pub fn read(line: &[u8], at: usize, bytes: &mut [u8]) -> Command
+    requires { ⌜ at ≤ length (now line) ⌝ }
+{
+    let word = field::place_of(&line[0..at], &WORDS);
+    let c = session::unread(CHAINING, word, word <= CUT);
+    session::read(line, at, &FIELDS, form_of(word), bytes, c)
 }
 
 // ---- room, joining
 
 fn set_room(v: Values, room: &mut Room, s: Session) -> Session {
     *room = [UNWRITTEN; ROOM];
-    let mut k = session::after(s, true, false);
+    let mut k = s;
     k.room = v[0] as usize;
     k
 }
 
-fn with_joining(s: Session, joining: Joining, is_told: bool) -> Session {
-    let mut k = session::after(s, true, is_told);
+fn with_joining(s: Session, joining: Joining) -> Session {
+    let mut k = s;
     k.joining = joining;
     k
 }
@@ -78,7 +101,7 @@ fn joining_of(v: Values) -> Joining {
 // ---- join
 
 // Of a worked line the room is not told.
-fn print_join(j: Joined, line: &[u8], room: &[u8], s: Session) {
+fn print_join(j: Joined, room: &[u8], is_worked: bool) {
     let state = j.state;
     let numbers = [
         from_u8(j.answer),
@@ -87,75 +110,47 @@ fn print_join(j: Joined, line: &[u8], room: &[u8], s: Session) {
         from_flag(state.opened),
         from_u16(state.length),
     ];
-    session::begin(line, s.is_worked);
-    lay::write_filled(b"% % % % %", &numbers);
-    if !s.is_worked {
-        session::write_bytes(room, 0, s.room);
+    if is_worked {
+        lay::say(b"% % % % %", &numbers);
+    } else {
+        session::say_bytes(b"% % % % %", &numbers, room);
     }
-    lay::write(b"\n");
 }
 
-fn join(v: Values, line: &[u8], bytes: &[u8], room: &mut [u8], s: Session) -> Session {
-    let count = least(v[1] as usize, bytes.len());
+fn join(v: Values, bytes: &[u8], room: &mut [u8], s: Session) -> Session {
     let size = least(s.room, room.len());
-    let joining = s.joining;
-    let j = chain::join(as_u16(v[0]), joining, &bytes[0..count], &mut room[0..size]);
-    print_join(j, line, room, s);
-    let state = j.state;
-    with_joining(s, state, true)
+    let j = chain::join(as_u16(v[0]), s.joining, bytes, &mut room[0..size]);
+    print_join(j, &room[0..size], s.is_worked);
+    with_joining(s, j.state)
 }
 
 // ---- cut
 
 // Of a worked line the packet is told, else the whole buffer.
-fn shown(p: Piece, size: usize, is_worked: bool) -> usize {
-    if is_worked { p.length as usize } else { size }
-}
-
-fn print_cut(p: Piece, line: &[u8], packet: &[u8], size: usize, is_worked: bool) {
+fn print_cut(p: Piece, packet: &[u8], size: usize, is_worked: bool) {
     let numbers = [from_u8(p.answer), from_u16(p.length), from_u16(p.count)];
-    session::begin(line, is_worked);
-    lay::write_filled(b"% % %", &numbers);
-    session::write_bytes(packet, 0, shown(p, size, is_worked));
-    lay::write(b"\n");
+    let told = if is_worked { p.length as usize } else { size };
+    let end = least(told, packet.len());
+    session::say_bytes(b"% % %", &numbers, &packet[0..end]);
 }
 
-fn cut(v: Values, line: &[u8], bytes: &[u8], packet: &mut [u8], s: Session) -> Session {
-    let count = least(v[3] as usize, bytes.len());
+fn cut(v: Values, bytes: &[u8], packet: &mut [u8], is_worked: bool) {
     let size = least(v[2] as usize, packet.len());
-    let p = chain::cut(
-        as_u16(v[0]),
-        &bytes[0..count],
-        as_u32(v[1]),
-        &mut packet[0..size],
-    );
-    print_cut(p, line, packet, size, s.is_worked);
-    session::after(s, true, true)
+    let p = chain::cut(as_u16(v[0]), bytes, as_u32(v[1]), &mut packet[0..size]);
+    print_cut(p, packet, size, is_worked);
 }
 
 // ---- every command
 
-fn act(word: usize, v: Values, line: &[u8], bytes: &[u8], room: &mut Room, s: Session) -> Session {
+// Does what the command says.
+pub fn act(c: Command, bytes: &[u8], room: &mut Room, s: Session) -> Session {
+    let v = c.values;
+    let word = c.word;
     match word {
-        SET_ROOM => set_room(v, room, s),
-        SET_JOINING => with_joining(s, joining_of(v), false),
-        JOIN => join(v, line, bytes, room, s),
-        _ => cut(v, line, bytes, &mut [UNSENT; PACKET], s),
-    }
-}
-
-// Does what the line says, where its word is one of these and its fields are right.
-pub fn obey(line: &[u8], at: usize, room: &mut Room, s: Session) -> Session
-    requires { ⌜ at ≤ length (now line) ⌝ }
-{
-    let word = field::place_of(&line[0..at], &WORDS);
-    let mut bytes = [0u8; MOST_BYTES];
-    if word <= CUT {
-        let f = fields_of(word, line, at, &mut bytes);
-        if f.good {
-            let v = f.values;
-            return act(word, v, line, &bytes, room, s);
-        }
+        JOIN => return join(v, bytes, room, s),
+        CUT => cut(v, bytes, &mut [UNSENT; PACKET], s.is_worked),
+        SET_ROOM => return set_room(v, room, s),
+        _ => return with_joining(s, joining_of(v)),
     }
     s
 }

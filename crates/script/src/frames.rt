@@ -1,42 +1,59 @@
-// The commands of worked lines only, on a frame's bytes: their words, their fields and what they print.
+// The commands of worked lines only, on a frame's bytes: their words, their fields, what they do and what they print.
 use crate::session;
-use crate::session::LINE;
+use crate::session::Command;
+use crate::session::FRAMES;
+use crate::session::Form;
 use crate::session::Session;
 use frame::Format;
 use frame::Heard;
 use text::field;
 use text::field::BYTES;
-use text::field::MOST_BYTES;
 use text::field::U16;
 use text::field::as_u16;
 use text::heard;
 use text::lay;
-use text::least;
 ghost use Prim.Native.Nat.{_≤_};
 ghost use lib.ListN.{length};
 
-// ---- checksum BYTES
+// ---- words and fields
 
-fn print_sum(sum: u16, line: &[u8]) {
-    let mut out = [0u8; 8];
-    let pair = [(sum / 256) as u8, (sum % 256) as u8];
-    session::begin(line, true);
-    let at = lay::add_hex(&mut out, 0, &pair);
-    lay::end_line(&mut out, at);
-}
+const WORDS: [u8; 13] = *b"checksum hear";
 
-fn checksum(line: &[u8], at: usize, s: Session) -> Session {
-    let mut bytes = [0u8; MOST_BYTES];
-    let f = field::read_all(line, at, &[BYTES], 1, &mut bytes);
-    if f.good {
-        let count = least(f.values[0] as usize, MOST_BYTES);
-        print_sum(fcs::checksum(&bytes[0..count]), line);
-        return session::after(s, true, true);
+// Their places in the list.
+const CHECKSUM: usize = 0;
+
+const HEAR: usize = 1;
+
+const FIELDS: [u64; 2] = [U16, BYTES];
+
+fn form_of(word: usize) -> Form {
+    match word {
+        CHECKSUM => session::fields(1, 2, 1),
+        HEAR => session::fields(0, 2, 2),
+        _ => session::no_form(),
     }
-    s
 }
 
-// ---- hear D BYTES
+// The line as one of these commands, if it is one.
+pub fn read(line: &[u8], at: usize, bytes: &mut [u8]) -> Command
+    requires { ⌜ at ≤ length (now line) ⌝ }
+{
+    let word = field::place_of(&line[0..at], &WORDS);
+    let c = session::unread(FRAMES, word, true);
+    session::read(line, at, &FIELDS, form_of(word), bytes, c)
+}
+
+// ---- checksum
+
+// The sum's two bytes in hexadecimal digits, behind a space.
+fn print_sum(sum: u16) {
+    let mut out = [0u8; 8];
+    lay::add_hex(&mut out, 0, &[(sum / 256) as u8, (sum % 256) as u8]);
+    lay::write(&out[1..5]);
+    lay::write(b"\n");
+}
+
+// ---- hear
 
 // How many bytes a data frame has, at least 1; 0 of every other frame.
 fn length_of(h: Heard) -> u64 {
@@ -51,43 +68,33 @@ fn length_of(h: Heard) -> u64 {
     }
 }
 
-fn print_heard(h: Heard, line: &[u8]) {
-    let mut out = [0u8; LINE];
-    let length = length_of(h);
-    session::begin(line, true);
-    lay::write_filled(b"% ", &[frame::refusal(h) as u64]);
-    let mut at = heard::add_heard(&mut out, 0, h);
-    at = lay::add_chosen(
-        &mut out,
-        at,
-        b"|, % bytes",
-        least(length as usize, 1),
-        &[length],
-    );
-    lay::end_line(&mut out, at);
+fn print_length(length: u64) {
+    if length == 0 {
+        lay::write(b"\n");
+    } else {
+        lay::say(b", % bytes", &[length]);
+    }
 }
 
-fn hear(line: &[u8], at: usize, s: Session) -> Session {
-    let mut bytes = [0u8; MOST_BYTES];
-    let f = field::read_all(line, at, &[U16, BYTES], 2, &mut bytes);
-    if f.good {
-        let d = as_u16(f.values[0]);
-        let count = least(f.values[1] as usize, MOST_BYTES);
-        print_heard(frame::hear(Format { d }, &bytes[0..count]), line);
-        return session::after(s, true, true);
-    }
-    s
+fn print_heard(h: Heard) {
+    let mut out = [0u8; 64];
+    let refusal = frame::refusal(h) as u64;
+    let mut at = lay::add_filled(&mut out, 0, b"% ", &[refusal]);
+    at = heard::add_heard(&mut out, at, h);
+    lay::write_out(&out, at);
+    print_length(length_of(h));
 }
 
 // ---- every command
 
-// Does what the line says, where its word is one of these and its fields are right. The numbers are places in the list.
-pub fn obey(line: &[u8], at: usize, s: Session) -> Session
-    requires { ⌜ at ≤ length (now line) ⌝ }
-{
-    match field::place_of(&line[0..at], b"checksum hear") {
-        0 => checksum(line, at, s),
-        1 => hear(line, at, s),
-        _ => s,
+// Does what the command says.
+pub fn act(c: Command, bytes: &[u8], s: Session) -> Session {
+    if c.word == CHECKSUM {
+        print_sum(fcs::checksum(bytes));
+        return s;
     }
+    let v = c.values;
+    let d = as_u16(v[0]);
+    print_heard(frame::hear(Format { d }, bytes));
+    s
 }

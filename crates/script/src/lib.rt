@@ -4,55 +4,97 @@ mod frames;
 mod linking;
 mod session;
 
+use session::BAD;
 use session::BUFFER;
+use session::CHAINING;
+use session::Command;
+use session::FRAMES;
+use session::LINKING;
 use session::ROOM;
 use session::Room;
+use session::SILENT;
 use session::Session;
 use session::Slots;
 use text::field;
+use text::field::MOST_BYTES;
 use text::input::INPUT;
 use text::input::Input;
 use text::lay;
+use text::least;
 use text::lines;
 use text::lines::Reader;
 ghost use Prim.Native.Nat.{_≤_};
 ghost use lib.ListN.{length};
 
+// ---- what a line asks for
+
 // A line that one file's commands do not take is offered to the next.
-fn command(line: &[u8], slots: &mut Slots, room: &mut Room, s: Session) -> Session {
+fn command(line: &[u8], is_worked: bool, bytes: &mut [u8]) -> Command {
     let at = field::word_end(line);
-    let k = linking::obey(line, at, slots, s);
-    if k.is_good {
-        return k;
+    let c = linking::read(line, at, bytes);
+    if c.owner != BAD {
+        return c;
     }
-    let k = chaining::obey(line, at, room, k);
-    if k.is_good | !k.is_worked {
-        return k;
+    let c = chaining::read(line, at, bytes);
+    if (c.owner != BAD) | !is_worked {
+        return c;
     }
-    frames::obey(line, at, k)
+    frames::read(line, at, bytes)
 }
 
-fn obey(line: &[u8], is_long: bool, slots: &mut Slots, room: &mut Room, s: Session) -> Session {
+fn read(line: &[u8], is_long: bool, is_worked: bool, bytes: &mut [u8]) -> Command {
     if is_long {
-        return session::after(s, false, false);
+        return session::no_command(BAD);
     }
     if lines::is_silent(line) {
-        return session::after(s, true, false);
+        return session::no_command(SILENT);
     }
-    command(line, slots, room, session::after(s, false, false))
+    command(line, is_worked, bytes)
 }
 
-// What a line prints that is no call.
-fn conclude(line: &[u8], number: u64, s: Session) {
-    if !s.is_good {
-        lay::say(b"bad line %", &[number]);
-        return;
-    }
-    if s.is_worked & !s.is_told {
-        lay::write(line);
+// ---- what it prints whatever it does
+
+fn echo(line: &[u8], is_call: bool) {
+    lay::write(line);
+    if is_call {
+        lay::write(b" -> ");
+    } else {
         lay::write(b"\n");
     }
 }
+
+// What stands before a call's answer, and all that a line prints that is no call.
+fn begin(line: &[u8], number: u64, c: Command, is_worked: bool) {
+    if c.owner == BAD {
+        lay::say(b"bad line %", &[number]);
+        return;
+    }
+    if is_worked {
+        echo(line, c.is_call);
+    }
+}
+
+// ---- what it does
+
+fn act(c: Command, bytes: &[u8], slots: &mut Slots, room: &mut Room, s: Session) -> Session {
+    let owner = c.owner;
+    match owner {
+        LINKING => linking::act(c, bytes, slots, s),
+        CHAINING => chaining::act(c, bytes, room, s),
+        FRAMES => frames::act(c, bytes, s),
+        _ => s,
+    }
+}
+
+fn obey(line: &[u8], r: Reader, slots: &mut Slots, room: &mut Room, s: Session) -> Session {
+    let mut bytes = [0u8; MOST_BYTES];
+    let c = read(line, r.is_long, s.is_worked, &mut bytes);
+    begin(line, r.number, c, s.is_worked);
+    let count = least(c.count, MOST_BYTES);
+    act(c, &bytes[0..count], slots, room, s)
+}
+
+// ---- all lines
 
 fn end_line(input: &[u8], r: Reader, slots: &mut Slots, room: &mut Room, s: Session) -> Session
     requires { ⌜ (r .start ≤ r .end) × (r .end ≤ length (now input)) ⌝ }
@@ -60,9 +102,7 @@ fn end_line(input: &[u8], r: Reader, slots: &mut Slots, room: &mut Room, s: Sess
     if r.is_given {
         let start = r.start;
         let end = r.end;
-        let k = obey(&input[start..end], r.is_long, slots, room, s);
-        conclude(&input[start..end], r.number, k);
-        return k;
+        return obey(&input[start..end], r, slots, room, s);
     }
     s
 }

@@ -1,9 +1,12 @@
 // The commands on one end of the link: their words, their fields, what they do and what they print.
-// A later input goes last in its command's list of fields, and the count behind the list stays: absent means 0. A later output goes last
+// A later input goes last among its command's fields, and the number that are needed stays: absent means 0. A later output goes last
 // in print_all, behind the frame.
 use crate::session;
 use crate::session::BUFFER;
+use crate::session::Command;
+use crate::session::Form;
 use crate::session::LINE;
+use crate::session::LINKING;
 use crate::session::Session;
 use crate::session::Slots;
 use crate::session::UNSENT;
@@ -15,8 +18,6 @@ use state::Settings;
 use text::field;
 use text::field::BYTES;
 use text::field::FLAG;
-use text::field::Fields;
-use text::field::MOST_BYTES;
 use text::field::U8;
 use text::field::U16;
 use text::field::U32;
@@ -82,62 +83,80 @@ fn link_of(v: Values) -> Link {
     }
 }
 
-const SETTINGS_FIELDS: [u64; 5] = [U16, U8, U16, U16, U8];
-
-const STATE_FIELDS: [u64; 18] = [
-    // D WIN TRANS ACK REP
+const FIELDS: [u64; 27] = [
+    // start D WIN TRANS ACK REP
     U16,
     U8,
     U16,
     U16,
-    U8, // NEXT EXPECTED WAITING
+    U8,
+    // of the other calls MS BYTES
+    U32,
+    BYTES,
+    // lend SLOTS FRAME
+    BUFFER as u64,
+    BUFFER as u64,
+    // state D WIN TRANS ACK REP
+    U16,
+    U8,
+    U16,
+    U16,
+    U8,
+    // NEXT EXPECTED WAITING
     U8,
     U8,
-    U8, // LEN0 LEN1 START0 START1 REPEATED0 REPEATED1
+    U8,
+    // LEN0 LEN1 START0 START1 REPEATED0 REPEATED1
     U16,
     U16,
     U32,
     U32,
     U8,
-    U8, // ACKING ACKSTART NAKED LOST
+    U8,
+    // ACKING ACKSTART NAKED LOST
     FLAG,
     U32,
     FLAG,
     FLAG,
 ];
 
-fn fields_of(word: usize, line: &[u8], at: usize, bytes: &mut [u8]) -> Fields {
+fn form_of(word: usize) -> Form {
     match word {
-        START => field::read_all(line, at, &SETTINGS_FIELDS, 5, bytes),
-        SUBMIT | TAKE => field::read_all(line, at, &[U32, BYTES], 2, bytes),
-        LOOK | ACKNOWLEDGE | RESYNCHRONISE => field::read_all(line, at, &[U32], 1, bytes),
-        LEND => field::read_all(line, at, &[BUFFER as u64, BUFFER as u64], 2, bytes),
-        _ => field::read_all(line, at, &STATE_FIELDS, 18, bytes),
+        START => session::fields(0, 5, 5),
+        SUBMIT | TAKE => session::fields(5, 7, 2),
+        LOOK | ACKNOWLEDGE | RESYNCHRONISE => session::fields(5, 6, 1),
+        LEND => session::fields(7, 9, 2),
+        STATE => session::fields(9, 27, 18),
+        _ => session::no_form(),
     }
+}
+
+// The line as one of these commands, if it is one.
+pub fn read(line: &[u8], at: usize, bytes: &mut [u8]) -> Command
+    requires { ⌜ at ≤ length (now line) ⌝ }
+{
+    let word = field::place_of(&line[0..at], &WORDS);
+    let c = session::unread(LINKING, word, word < LEND);
+    session::read(line, at, &FIELDS, form_of(word), bytes, c)
 }
 
 // ---- what is lent, and any state
 
 fn lend(v: Values, slots: &mut Slots, s: Session) -> Session {
     *slots = [UNWRITTEN; BUFFER];
-    let mut k = session::after(s, true, false);
+    let mut k = s;
     k.slots = v[0] as usize;
     k.frame = v[1] as usize;
     k
 }
 
-fn with_link(s: Session, link: Link, is_told: bool) -> Session {
-    let mut k = session::after(s, true, is_told);
+fn with_link(s: Session, link: Link) -> Session {
+    let mut k = s;
     k.link = link;
     k
 }
 
 // ---- calls
-
-fn look(l: Link, slots: &[u8], frame: &mut [u8], ms: u32) -> Outcome {
-    let looked = link::look(l, slots, frame, ms);
-    looked.outcome
-}
 
 fn outcome_of(
     word: usize,
@@ -152,49 +171,13 @@ fn outcome_of(
         START => link::start(settings, slots),
         SUBMIT => link::submit(l, slots, frame, ms, bytes),
         TAKE => link::take(l, slots, frame, ms, bytes),
-        LOOK => look(l, slots, frame, ms),
+        LOOK => {
+            let looked = link::look(l, slots, frame, ms);
+            looked.outcome
+        }
         ACKNOWLEDGE => link::acknowledge(l, slots, frame, ms),
         _ => link::resynchronise(l, slots, frame, ms),
     }
-}
-
-// The buffers are as long as they are lent. A call looks at its own fields only: settings, or a time and, counted by field 1, bytes.
-fn lent(
-    word: usize,
-    v: Values,
-    slots: &mut [u8],
-    frame: &mut [u8],
-    bytes: &[u8],
-    s: Session,
-) -> Outcome {
-    let l = s.link;
-    let a = least(s.slots, slots.len());
-    let b = least(s.frame, frame.len());
-    let c = least(v[1] as usize, bytes.len());
-    outcome_of(
-        word,
-        settings_of(v),
-        l,
-        &mut slots[0..a],
-        &mut frame[0..b],
-        as_u32(v[0]),
-        &bytes[0..c],
-    )
-}
-
-fn call(
-    word: usize,
-    v: Values,
-    line: &[u8],
-    bytes: &[u8],
-    slots: &mut Slots,
-    s: Session,
-) -> Session {
-    let mut frame = [UNSENT; BUFFER];
-    let o = lent(word, v, slots, &mut frame, bytes, s);
-    print(o, line, bytes, slots, &frame, s);
-    let state = o.state;
-    with_link(s, state, true)
 }
 
 // ---- what a call prints
@@ -228,65 +211,84 @@ fn numbers_of(o: Outcome) -> [u64; 22] {
     ]
 }
 
-fn print_all(o: Outcome, slots: &[u8], frame: &[u8], s: Session) {
+fn print_line(
+    head: &[u8],
+    numbers: &[u64],
+    first: &[u8],
+    second: &[u8],
+    tail: &[u8],
+    dropped: u64,
+) {
     let mut out = [0u8; LINE];
-    let mut at = lay::add_filled(
-        &mut out,
-        0,
-        b"% % % % % % % % % % % % % % % % % % % % % %",
-        &numbers_of(o),
-    );
-    at = session::add_bytes(&mut out, at, slots, 0, s.slots);
-    at = session::add_bytes(&mut out, at, frame, 0, s.frame);
-    lay::end_line(&mut out, at);
+    let mut at = lay::add_filled(&mut out, 0, head, numbers);
+    at = lay::add_hex(&mut out, at, first);
+    at = lay::add_hex(&mut out, at, second);
+    at = lay::add_filled(&mut out, at, tail, &[dropped]);
+    lay::write_out(&out, at);
+}
+
+fn print_all(o: Outcome, slots: &[u8], frame: &[u8]) {
+    let head = b"% % % % % % % % % % % % % % % % % % % % % %";
+    print_line(head, &numbers_of(o), slots, frame, b"\n", 0);
 }
 
 // The delivered packet is the received frame's bytes from byte 3 on.
-fn print_worked(o: Outcome, line: &[u8], bytes: &[u8], frame: &[u8]) {
-    session::begin(line, true);
-    lay::write_filled(b"%", &[from_u8(o.answer)]);
-    session::write_bytes(frame, 0, o.sent as usize);
-    session::write_bytes(bytes, 3, o.delivered as usize);
-    lay::write_filled(b" %\n", &[from_u8(o.dropped)]);
+fn print_worked(o: Outcome, bytes: &[u8], frame: &[u8]) {
+    let sent = least(o.sent as usize, frame.len());
+    let start = least(3, bytes.len());
+    let end = start + least(o.delivered as usize, bytes.len() - start);
+    print_line(
+        b"%",
+        &[from_u8(o.answer)],
+        &frame[0..sent],
+        &bytes[start..end],
+        b" %\n",
+        from_u8(o.dropped),
+    );
 }
 
-fn print(o: Outcome, line: &[u8], bytes: &[u8], slots: &[u8], frame: &[u8], s: Session) {
-    if s.is_worked {
-        print_worked(o, line, bytes, frame);
+fn print(o: Outcome, bytes: &[u8], slots: &[u8], frame: &[u8], is_worked: bool) {
+    if is_worked {
+        print_worked(o, bytes, frame);
     } else {
-        print_all(o, slots, frame, s);
+        print_all(o, slots, frame);
     }
 }
 
 // ---- every command
 
-fn act(
-    word: usize,
-    v: Values,
-    line: &[u8],
-    bytes: &[u8],
-    slots: &mut Slots,
-    s: Session,
-) -> Session {
-    match word {
-        LEND => lend(v, slots, s),
-        STATE => with_link(s, link_of(v), false),
-        _ => call(word, v, line, bytes, slots, s),
-    }
+// A call looks at its own fields only: settings, or a time and bytes.
+fn answered(c: Command, slots: &mut [u8], frame: &mut [u8], bytes: &[u8], s: Session) -> Session {
+    let v = c.values;
+    let o = outcome_of(
+        c.word,
+        settings_of(v),
+        s.link,
+        slots,
+        frame,
+        as_u32(v[0]),
+        bytes,
+    );
+    print(o, bytes, slots, frame, s.is_worked);
+    with_link(s, o.state)
 }
 
-// Does what the line says, where its word is one of these and its fields are right.
-pub fn obey(line: &[u8], at: usize, slots: &mut Slots, s: Session) -> Session
-    requires { ⌜ at ≤ length (now line) ⌝ }
-{
-    let word = field::place_of(&line[0..at], &WORDS);
-    let mut bytes = [0u8; MOST_BYTES];
-    if word <= STATE {
-        let f = fields_of(word, line, at, &mut bytes);
-        if f.good {
-            let v = f.values;
-            return act(word, v, line, &bytes, slots, s);
-        }
+// The buffers are as long as they are lent.
+fn call(c: Command, bytes: &[u8], slots: &mut [u8], s: Session) -> Session {
+    let mut frame = [UNSENT; BUFFER];
+    let a = least(s.slots, slots.len());
+    let b = least(s.frame, BUFFER);
+    answered(c, &mut slots[0..a], &mut frame[0..b], bytes, s)
+}
+
+// Does what the command says.
+pub fn act(c: Command, bytes: &[u8], slots: &mut Slots, s: Session) -> Session {
+    let v = c.values;
+    if c.word == LEND {
+        return lend(v, slots, s);
     }
-    s
+    if c.word == STATE {
+        return with_link(s, link_of(v));
+    }
+    call(c, bytes, slots, s)
 }

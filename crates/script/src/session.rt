@@ -1,7 +1,10 @@
-// What goes on from line to line.
+// What goes on from line to line, and what one line asks for.
 use chain::Joining;
 use state::Link;
 use state::Settings;
+use text::field;
+use text::field::FIELDS;
+use text::field::Values;
 use text::lay;
 use text::least;
 
@@ -25,8 +28,7 @@ pub const UNSENT: u8 = 0xDD;
 // A printed line is laid in as many bytes at a time.
 pub const LINE: usize = 8192;
 
-// slots, frame, room: how many bytes are lent. is_worked: each line is printed again, and what it gives behind it. is_good: the last line
-// is a command. is_told: it is printed.
+// slots, frame, room: how many bytes are lent. is_worked: each line is printed again, and what it gives behind it.
 pub struct Session {
     pub link: Link,
     pub joining: Joining,
@@ -34,8 +36,6 @@ pub struct Session {
     pub frame: usize,
     pub room: usize,
     pub is_worked: bool,
-    pub is_good: bool,
-    pub is_told: bool,
 }
 
 fn no_settings() -> Settings {
@@ -57,38 +57,101 @@ pub fn beginning(is_worked: bool) -> Session {
         frame: 0,
         room: 0,
         is_worked,
-        is_good: false,
-        is_told: false,
     }
 }
 
-// After a line, by whether it is a command, and whether it is printed.
-pub fn after(s: Session, is_good: bool, is_told: bool) -> Session {
-    let mut k = s;
-    k.is_good = is_good;
-    k.is_told = is_told;
-    k
+// ---- a line
+
+// Whose a line is: nobody's, of nobody and rightly so, or one file's.
+pub const BAD: usize = 0;
+
+pub const SILENT: usize = 1;
+
+pub const LINKING: usize = 2;
+
+pub const CHAINING: usize = 3;
+
+pub const FRAMES: usize = 4;
+
+// word: its place among its owner's words. count: how many bytes its byte field has. is_call: it prints what it gives.
+pub struct Command {
+    pub values: Values,
+    pub owner: usize,
+    pub word: usize,
+    pub count: usize,
+    pub is_call: bool,
 }
 
-// Writes what stands before a worked line's answer: the line itself, and an arrow.
-pub fn begin(line: &[u8], is_worked: bool) {
-    if is_worked {
-        lay::write(line);
-        lay::write(b" -> ");
+// Before its fields are read.
+pub fn unread(owner: usize, word: usize, is_call: bool) -> Command {
+    Command {
+        values: [0; FIELDS],
+        owner,
+        word,
+        count: 0,
+        is_call,
     }
 }
 
-// Lays a space, and `count` bytes from index `from` on, as far as there are any.
-pub fn add_bytes(out: &mut [u8], at: usize, bytes: &[u8], from: usize, count: usize) -> usize {
-    let start = least(from, bytes.len());
-    let end = start + least(count, bytes.len() - start);
-    let next = lay::add(out, at, b" ");
-    lay::add_hex(out, next, &bytes[start..end])
+// A line that is no command.
+pub fn no_command(owner: usize) -> Command {
+    unread(owner, 0, false)
 }
 
-// Writes what add_bytes lays.
-pub fn write_bytes(bytes: &[u8], from: usize, count: usize) {
+// Where a command's fields stand among its owner's, and how many of them a line cannot do without; of these a byte field is the last.
+pub struct Form {
+    pub start: usize,
+    pub end: usize,
+    pub needed: usize,
+}
+
+// The fields from index `start` up to `end`.
+pub fn fields(start: usize, end: usize, needed: usize) -> Form {
+    Form { start, end, needed }
+}
+
+// Of no word: a field is needed and there is none.
+pub fn no_form() -> Form {
+    fields(0, 0, 1)
+}
+
+fn value(v: Values, n: usize) -> usize {
+    if 0 < n {
+        if n <= FIELDS {
+            return v[n - 1] as usize;
+        }
+    }
+    0
+}
+
+// The command of that word, if the line's fields are right.
+pub fn read(
+    line: &[u8],
+    at: usize,
+    largest: &[u64],
+    form: Form,
+    bytes: &mut [u8],
+    k: Command,
+) -> Command {
+    let end = least(form.end, largest.len());
+    let start = least(form.start, end);
+    let f = field::read_all(line, at, &largest[start..end], form.needed, bytes);
+    if f.good {
+        let v = f.values;
+        let mut c = k;
+        c.values = v;
+        c.count = value(v, form.needed);
+        return c;
+    }
+    no_command(BAD)
+}
+
+// ---- text
+
+// Writes a line: the template with its numbers, and the bytes.
+pub fn say_bytes(template: &[u8], numbers: &[u64], bytes: &[u8]) {
     let mut out = [0u8; LINE];
-    let at = add_bytes(&mut out, 0, bytes, from, count);
-    lay::write_out(&out, at);
+    let mut at = lay::add_filled(&mut out, 0, template, numbers);
+    at = lay::add_hex(&mut out, at, bytes);
+    lay::end_line(&mut out, at);
 }

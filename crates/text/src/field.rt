@@ -188,21 +188,20 @@ fn read(line: &[u8], from: usize, largest: u64, bytes: &mut [u8]) -> Field {
     number(line, from, largest)
 }
 
-// Where the field behind the space at `at` begins; the line's end, where no field is good, if there is no space or no field is left.
-fn start_of(line: &[u8], at: usize, is_left: bool) -> usize {
+// Field n behind the space at `at`; no field is good where there is no space, or where the line has a field too many.
+fn read_nth(line: &[u8], at: usize, largest: &[u64], n: usize, bytes: &mut [u8]) -> Field {
     if at < line.len() {
-        if (line[at] == SPACE) & is_left {
-            return at + 1;
+        if line[at] == SPACE {
+            if n < largest.len() {
+                return read(line, at + 1, largest[n], bytes);
+            }
         }
     }
-    line.len()
-}
-
-fn largest_of(largest: &[u64], n: usize) -> u64 {
-    if n < largest.len() {
-        return largest[n];
+    Field {
+        value: 0,
+        end: at,
+        good: false,
     }
-    0
 }
 
 // The fields from `at` to the line's end, each up to its largest number; of a byte field at most as many bytes as are lent. There may be fewer, but not under `least`.
@@ -212,8 +211,7 @@ pub fn read_all(line: &[u8], at: usize, largest: &[u64], least: usize, bytes: &m
     let mut good = true;
     let mut n: usize = 0;
     while n < FIELDS && good && next < line.len() {
-        let from = start_of(line, next, n < largest.len());
-        let f = read(line, from, largest_of(largest, n), bytes);
+        let f = read_nth(line, next, largest, n, bytes);
         values[n] = f.value;
         next = f.end;
         good = f.good;

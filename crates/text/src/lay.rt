@@ -145,11 +145,7 @@ fn add_pair(out: &mut [u8], at: usize, pair: [u8; 2]) -> usize {
     add(out, at, &pair)
 }
 
-// Lays bytes in hexadecimal digits, upper case; `-` for none.
-pub fn add_hex(out: &mut [u8], at: usize, bytes: &[u8]) -> usize {
-    if bytes.len() == 0 {
-        return add(out, at, b"-");
-    }
+fn add_pairs(out: &mut [u8], at: usize, bytes: &[u8]) -> usize {
     let mut next = at;
     let mut i: usize = 0;
     while i < bytes.len() {
@@ -157,6 +153,15 @@ pub fn add_hex(out: &mut [u8], at: usize, bytes: &[u8]) -> usize {
         i += 1;
     }
     next
+}
+
+// Lays a space, and bytes in hexadecimal digits, upper case; `-` for none.
+pub fn add_hex(out: &mut [u8], at: usize, bytes: &[u8]) -> usize {
+    if bytes.len() == 0 {
+        return add(out, at, b" -");
+    }
+    let next = add(out, at, b" ");
+    add_pairs(out, next, bytes)
 }
 
 fn printable(byte: u8) -> u8 {

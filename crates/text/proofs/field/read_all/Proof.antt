@@ -17,4 +17,4 @@ again : tie.Need-loop-again Inv-loop μ-loop
 again c = (search needs, search needs)
 
 pub read-all-spec : {M : Type 1} → statement M
-read-all-spec = tie.close (tie.spec Inv-loop μ-loop (λ c. search needs) (λ c κs. search needs) (λ c κs. search needs) (λ c κs. search needs) (λ c. search needs) (λ c. search needs) (λ c. search needs) (λ c. search needs) again (λ c. search needs) (λ c. search needs))
+read-all-spec = tie.close (tie.spec Inv-loop μ-loop (λ c. search needs) (λ c κs. search needs) (λ c. search needs) (λ c. search needs) (λ c. search needs) (λ c. search needs) again (λ c. search needs) (λ c. search needs))
