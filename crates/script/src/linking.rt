@@ -158,26 +158,45 @@ fn with_link(s: Session, link: Link) -> Session {
 
 // ---- calls
 
-fn outcome_of(
+fn look(l: Link, slots: &[u8], frame: &mut [u8], ms: u32) -> Outcome {
+    let looked = link::look(l, slots, frame, ms);
+    looked.outcome
+}
+
+// The calls that are given a time only.
+fn timed(word: usize, l: Link, slots: &[u8], frame: &mut [u8], ms: u32) -> Outcome {
+    match word {
+        LOOK => look(l, slots, frame, ms),
+        ACKNOWLEDGE => link::acknowledge(l, slots, frame, ms),
+        _ => link::resynchronise(l, slots, frame, ms),
+    }
+}
+
+// The calls that leave the slots as they are.
+fn reading(
     word: usize,
     settings: Settings,
     l: Link,
-    slots: &mut [u8],
+    slots: &[u8],
     frame: &mut [u8],
     ms: u32,
     bytes: &[u8],
 ) -> Outcome {
     match word {
         START => link::start(settings, slots),
-        SUBMIT => link::submit(l, slots, frame, ms, bytes),
         TAKE => link::take(l, slots, frame, ms, bytes),
-        LOOK => {
-            let looked = link::look(l, slots, frame, ms);
-            looked.outcome
-        }
-        ACKNOWLEDGE => link::acknowledge(l, slots, frame, ms),
-        _ => link::resynchronise(l, slots, frame, ms),
+        _ => timed(word, l, slots, frame, ms),
     }
+}
+
+// A call looks at its own fields only: settings, or a time and bytes.
+fn outcome_of(c: Command, l: Link, slots: &mut [u8], frame: &mut [u8], bytes: &[u8]) -> Outcome {
+    let v = c.values;
+    let ms = as_u32(v[0]);
+    if c.word == SUBMIT {
+        return link::submit(l, slots, frame, ms, bytes);
+    }
+    reading(c.word, settings_of(v), l, slots, frame, ms, bytes)
 }
 
 // ---- what a call prints
@@ -257,18 +276,8 @@ fn print(o: Outcome, bytes: &[u8], slots: &[u8], frame: &[u8], is_worked: bool) 
 
 // ---- every command
 
-// A call looks at its own fields only: settings, or a time and bytes.
 fn answered(c: Command, slots: &mut [u8], frame: &mut [u8], bytes: &[u8], s: Session) -> Session {
-    let v = c.values;
-    let o = outcome_of(
-        c.word,
-        settings_of(v),
-        s.link,
-        slots,
-        frame,
-        as_u32(v[0]),
-        bytes,
-    );
+    let o = outcome_of(c, s.link, slots, frame, bytes);
     print(o, bytes, slots, frame, s.is_worked);
     with_link(s, o.state)
 }
