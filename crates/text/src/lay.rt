@@ -55,29 +55,21 @@ fn add_digits(out: &mut [u8], at: usize, number: u64) -> usize {
     add(out, at, &digits[..count])
 }
 
-// A mark with no number to it stays.
-fn add_nth(out: &mut [u8], at: usize, numbers: &[u64], n: usize) -> usize {
+// A mark has a number; 0 where a template has more marks than that.
+fn nth(numbers: &[u64], n: usize) -> u64 {
     if n < numbers.len() {
-        return add_digits(out, at, numbers[n]);
+        return numbers[n];
     }
-    add(out, at, b"%")
+    0
 }
 
 // The template's text from i up to the mark at `end`, and that mark's number; there is none at the template's end.
-fn add_part(
-    out: &mut [u8],
-    at: usize,
-    template: &[u8],
-    i: usize,
-    end: usize,
-    numbers: &[u64],
-    n: usize,
-) -> usize
+fn add_part(out: &mut [u8], at: usize, template: &[u8], i: usize, end: usize, number: u64) -> usize
     requires { ⌜ (i ≤ end) × (end ≤ length (now template)) ⌝ }
 {
     let next = add(out, at, &template[i..end]);
     if end < template.len() {
-        return add_nth(out, next, numbers, n);
+        return add_digits(out, next, number);
     }
     next
 }
@@ -89,7 +81,7 @@ pub fn add_filled(out: &mut [u8], at: usize, template: &[u8], numbers: &[u64]) -
     let mut i: usize = 0;
     while i < template.len() {
         let end = bytes::scan::find(template, i, template.len(), MARK);
-        next = add_part(out, next, template, i, end, numbers, n);
+        next = add_part(out, next, template, i, end, nth(numbers, n));
         i = end + 1;
         n += 1;
     }
@@ -196,13 +188,6 @@ pub fn end_line(out: &mut [u8], at: usize) {
 // Writes a text.
 pub fn write(text: &[u8]) {
     io::write_all(STDOUT_FILENO, text);
-}
-
-// Writes the template, each `%` of it as the next number.
-pub fn write_filled(template: &[u8], numbers: &[u64]) {
-    let mut line = [0u8; LINE];
-    let at = add_filled(&mut line, 0, template, numbers);
-    write_out(&line, at);
 }
 
 // Writes a line: the template, each `%` of it as the next number.

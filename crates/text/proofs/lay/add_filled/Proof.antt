@@ -14,4 +14,4 @@ abbrev μ-loop : tie.MeasureT-loop
 μ-loop out₀ at template numbers next₀ n₀ i₀ out next n i = length template - i
 
 pub add-filled-spec : {M : Type 1} → statement M
-add-filled-spec = tie.close (tie.spec Inv-loop μ-loop (λ c. search needs) (λ c κs. search needs) (λ c κs. search needs) (λ c. search needs) (λ c. search needs) (λ c. search needs) (λ c. search needs) (λ c. search needs) (λ c. search needs))
+add-filled-spec = tie.close (tie.spec Inv-loop μ-loop (λ c. search needs) (λ c κs. search needs) (λ c κs. search needs) (λ c κs. search needs) (λ c. search needs) (λ c. search needs) (λ c. search needs) (λ c. search needs) (λ c. search needs) (λ c. search needs))
