@@ -13,7 +13,7 @@ abbrev pub lenBytes : ℕ → List ℕ
 lenBytes len = (len / 256) ∷ (len % 256) ∷ []
 
 -- "FCS (two bytes, low first, by section 3.3)": the one place that knows the order, but for the reset frame,
--- whose five bytes document 01 gives
+-- whose five bytes document 01 gives. The format says nothing of the order yet; it is an argument because it will (DECISIONS D90).
 abbrev pub fcsBytes : Format → ℕ → List ℕ
 fcsBytes format sum = (sum % 256) ∷ (sum / 256) ∷ []
 

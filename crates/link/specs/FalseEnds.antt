@@ -1,6 +1,6 @@
 -- Five ends that the contracts shut out; proofs/Shut.antt shows it. Document 01: "Try these against the statements: an end that refuses
 -- everything, one that always sends the same frame, one that does nothing, one that serves the first packet and then only pretends, one that
--- invents packet or drop counts. Demand 2 shuts out each." A contract is an equation with `submitted` or `taken`: a call that is to meet it is
+-- invents packet or drop counts. Demand 2 shuts out each." A contract is an equation with `submitted` or `frameTaken`: a call that is to meet it is
 -- that definition on every input. (That the third and the fourth break demand 3 too is tried by must-fail edits of send: claims_by_rule,
 -- pretends_by_rule.)
 use Prim.Native.Nat.{ℕ, _+_, _≤_}
