@@ -1,127 +1,104 @@
 // What the two ends are at a moment, and what came of it all in the end.
 use crate::book;
 use crate::book::Book;
-use crate::book::Story;
+use crate::book::DELIVERED;
+use crate::book::TAKEN;
+use crate::deeds;
 use crate::words;
+use crate::words::say;
+use crate::words::say_if;
 use ends::CHIP;
 use ends::DESK;
+use ends::End;
 use ends::Ends;
 use ends::Store;
-use ends::line;
 use state::Link;
-use text::lay::from_u8;
 
 // ---- a moment
 
-fn tell_mark(is_set: bool, mark: usize) {
-    if is_set {
-        words::moment(mark, 0, 0, 0);
-    }
-}
-
 fn tell_link(l: Link) {
-    words::moment(
+    say(
         words::NUMBERS,
-        from_u8(l.next),
-        from_u8(l.expected),
-        from_u8(l.waiting),
+        l.next as u64,
+        l.expected as u64,
+        l.waiting as u64,
     );
-    tell_mark(l.acking, words::OWES);
-    tell_mark(l.nakmark, words::COMPLAINED);
-    tell_mark(l.lost, words::LINK_LOST);
-    words::end_line();
-}
-
-fn tell_frame(store: &Store, p: Ends, end: usize, n: usize) {
-    let l = ends::link_of(p, end);
-    words::moment(words::ON_ITS_WAY, 0, 0, 0);
-    words::frame(l.settings.format, line::frame_at(store, p, end, n));
-    words::end_line();
+    say_if(l.acking, words::OWES);
+    say_if(l.nakmark, words::COMPLAINED);
+    say_if(l.lost, words::LINK_LOST);
+    say(words::END_LINE, 0, 0, 0);
 }
 
 fn tell_frames(store: &Store, p: Ends, end: usize, count: usize) {
     let mut n: usize = 0;
     while n < count {
-        tell_frame(store, p, end, n);
+        say(words::ON_ITS_WAY, 0, 0, 0);
+        deeds::tell_nth(store, p, end, n);
+        say(words::END_LINE, 0, 0, 0);
         n += 1;
     }
 }
 
-// Tells the end, and what is on its way to it.
-pub fn show(store: &Store, p: Ends, end: usize) {
-    let e = ends::end_of(p, end);
-    words::clock(p.clock);
+// The end, and what is on its way to it.
+fn show_end(store: &Store, p: Ends, end: usize, e: End) {
+    say(words::CLOCK, p.clock as u64, 0, 0);
     words::name(end);
     tell_link(e.link);
     tell_frames(store, p, end, e.queue);
 }
 
+// Tells both ends.
+pub fn show(store: &Store, p: Ends) {
+    show_end(store, p, DESK, p.desk);
+    show_end(store, p, CHIP, p.chip);
+}
+
 // ---- the end
-
-fn tell_order(is_so: bool) {
-    if is_so {
-        words::ending(words::IN_ORDER, 0, 0);
-    }
-}
-
-fn tell_dropped(dropped: u64) {
-    if 0 < dropped {
-        words::ending(words::DROPPED, dropped, 0);
-    }
-}
-
-// What the end got of what the other took.
-fn tell_count(end: usize, got: usize, taken: usize, is_same: bool, dropped: u64) {
-    words::name(end);
-    words::ending(words::GOT, got as u64, taken as u64);
-    words::name(ends::other(end));
-    tell_order(is_same & (got <= taken) & (0 < got));
-    tell_dropped(dropped);
-    words::end_line();
-}
-
-fn tell_packet(packet: &[u8]) {
-    words::ending(words::INDENT, 0, 0);
-    words::packet(packet);
-    words::end_line();
-}
 
 fn tell_packets(book: &Book, shelf: usize, count: usize) {
     let mut n: usize = 0;
     while n < count {
-        tell_packet(book::packet_at(book, shelf, n));
+        say(words::INDENT, 0, 0, 0);
+        words::packet(book::packet_at(book, shelf, n));
+        say(words::END_LINE, 0, 0, 0);
         n += 1;
     }
 }
 
-fn tell_got(book: &Book, s: Story, end: usize) {
-    let sender = ends::end_of(s.ends, ends::other(end));
-    let shelf = book::got_at(end);
-    let got = book::count_of(s, shelf);
-    let sent = book::taken_at(ends::other(end));
-    let is_same = book::is_same(book, shelf, sent, got);
-    tell_count(end, got, book::count_of(s, sent), is_same, sender.dropped);
+// What the end got of what the other took.
+fn tell_count(end: usize, got: usize, sender: End, is_same: bool) {
+    words::name(end);
+    say(words::GOT, got as u64, sender.taken as u64, 0);
+    words::name(ends::other(end));
+    say_if(is_same & (got <= sender.taken) & (0 < got), words::IN_ORDER);
+    words::say_some(words::DROPPED, sender.dropped);
+    say(words::END_LINE, 0, 0, 0);
+}
+
+fn tell_got(book: &Book, end: usize, got: usize, sender: End) {
+    let shelf = DELIVERED + end % 2;
+    let sent = TAKEN + ends::other(end) % 2;
+    tell_count(end, got, sender, book::is_same(book, shelf, sent, got));
     tell_packets(book, shelf, got);
 }
 
-fn tell_waiting(place: usize, l: Link) {
-    words::ending(place, from_u8(l.waiting), 0);
-    if l.lost {
-        words::ending(words::IS_LOST, 0, 0);
-    }
+fn tell_waiting(n: usize, l: Link) {
+    say(n, l.waiting as u64, 0, 0);
+    say_if(l.lost, words::IS_LOST);
 }
 
 // Tells who got what, what is left, and how long it took; nothing where there is no pair.
-pub fn tell(book: &Book, s: Story) {
-    if s.has_pair == false {
-        return;
+pub fn tell(book: &Book, p: Ends) {
+    match p.desk.link.settings.format.d == 0 {
+        true => {}
+        false => {
+            say(words::IN_THE_END, 0, 0, 0);
+            tell_got(book, CHIP, p.chip.delivered, p.desk);
+            tell_got(book, DESK, p.desk.delivered, p.chip);
+            tell_waiting(words::AT_DESK, p.desk.link);
+            tell_waiting(words::AT_CHIP, p.chip.link);
+            say(words::END_LINE, 0, 0, 0);
+            say(words::TIME, p.rounds, p.passed, 0);
+        }
     }
-    words::line(words::IN_THE_END, 0, 0, 0);
-    tell_got(book, s, CHIP);
-    tell_got(book, s, DESK);
-    let p = s.ends;
-    tell_waiting(words::AT_DESK, ends::link_of(p, DESK));
-    tell_waiting(words::AT_CHIP, ends::link_of(p, CHIP));
-    words::end_line();
-    words::line(words::TIME, p.rounds, p.passed, 0);
 }

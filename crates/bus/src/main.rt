@@ -3,8 +3,8 @@ mod book;
 mod deeds;
 mod ending;
 mod order;
-mod rounds;
 mod story;
+mod task;
 mod words;
 
 use book::BOOK;
@@ -16,15 +16,15 @@ use text::input::Input;
 use text::lines;
 
 fn run(input: &mut Input, store: &mut Store, book: &mut Book) {
-    let mut s = story::beginning(store);
+    let mut p = ends::nobody();
     let mut reader = lines::beginning();
     let mut turns = lines::TURNS;
     while 0 < turns {
         reader = lines::next(input, reader);
-        s = story::obey_line(input, reader, store, book, s);
+        p = story::obey_line(input, reader, store, book, p);
         turns = lines::turns_left(reader, turns);
     }
-    ending::tell(book, s);
+    ending::tell(book, p);
 }
 
 fn main() {

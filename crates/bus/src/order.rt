@@ -1,165 +1,132 @@
 // A line's command: docs/BUS.md.
-use ends::CHIP;
-use ends::DESK;
-use ends::line::bytes_at;
+use base::buffer::part;
+use ends::moves;
 use text::field;
 use text::field::BYTES;
+use text::field::END as END_NAME;
 use text::field::Fields;
-use text::field::MOST_BYTES;
-use text::field::SPACE;
+use text::field::Form;
+use text::field::TEXT;
 use text::field::U8;
 use text::field::U16;
 use text::field::U32;
+use text::field::Values;
+use text::field::fields_from;
+use text::lines;
+use text::lines::Reader;
 
-// The commands, in the order of verb_of's words: those on the whole bus, then those at an end.
-pub const PAIR: usize = 0;
+// The commands, in the order of the words. Those up to ROUND are moves and have the numbers that ends::moves gives them.
+pub const SUBMIT: usize = moves::SUBMIT;
 
-pub const END: usize = 1;
+pub const CARRY: usize = moves::CARRY;
 
-pub const CLOCK: usize = 2;
+pub const RESYNCHRONISE: usize = moves::RESYNCHRONISE;
 
-pub const WAIT: usize = 3;
+pub const LOSE: usize = moves::LOSE;
 
-pub const ROUND: usize = 4;
+pub const DAMAGE: usize = moves::DAMAGE;
 
-pub const SETTLE: usize = 5;
+pub const WAIT: usize = moves::PASS;
 
-pub const SHOW: usize = 6;
+pub const ROUND: usize = moves::ROUND;
 
-pub const TELL: usize = 7;
+pub const CLOCK: usize = 9;
 
-pub const SUBMIT: usize = 8;
+pub const SETTLE: usize = 10;
 
-pub const CARRY: usize = 9;
+pub const PAIR: usize = 11;
 
-pub const LOSE: usize = 10;
+pub const END: usize = 12;
 
-pub const DAMAGE: usize = 11;
+pub const SHOW: usize = 13;
 
-pub const LOOK: usize = 12;
+pub const TELL: usize = 14;
 
-pub const ACKNOWLEDGE: usize = 13;
+// A line that is no command, and one that asks for nothing.
+pub const BAD: usize = 15;
 
-pub const RESYNCHRONISE: usize = 14;
+pub const SILENT: usize = 16;
 
-const UNKNOWN: usize = 15;
-
-// number: the first of its fields, 0 where it has none. rest: where what stands behind the word and the end's name begins.
+// values: the numbers of its fields. count: how many bytes it has.
 pub struct Order {
-    pub number: u64,
-    pub rest: usize,
+    pub values: Values,
+    pub count: usize,
     pub verb: usize,
-    pub end: usize,
-    pub good: bool,
 }
 
-fn verb_of(word: &[u8]) -> usize {
-    field::place_of(
-        word,
-        b"pair end clock wait round settle show tell submit carry lose damage look acknowledge resynchronise",
-    )
-}
-
-// The line from `at` on.
-pub fn rest_of(line: &[u8], at: usize) -> &[u8] {
-    bytes_at(line, at, std::num::wrapping_sub_usize(line.len(), at))
-}
-
-fn word_at(line: &[u8], at: usize) -> &[u8] {
-    let rest = rest_of(line, at);
-    let end = field::word_end(rest);
-    &rest[0..end]
-}
-
-// ---- fields
-
-// The largest numbers of a command's fields, how many there are, and how many there must be.
-struct Form {
-    largest: [u64; 6],
-    most: usize,
-    least: usize,
-}
-
-fn fields_like(largest: [u64; 6], most: usize, least: usize) -> Form {
-    Form {
-        largest,
-        most,
-        least,
-    }
-}
+const FIELDS: [u64; 13] = [
+    U16, // pair D WIN TRANS ACK REP CLOCK
+    U8,
+    U16,
+    U16,
+    U8,
+    U32,
+    END_NAME, // lose END N, damage END N BYTES; look and its like END
+    U32, // clock MS, wait MS
+    BYTES,
+    END_NAME, // carry END N
+    U8, // round N
+    END_NAME, // submit END TEXT
+    TEXT, // tell TEXT
+];
 
 fn form_of(verb: usize) -> Form {
     match verb {
-        PAIR => fields_like([U16, U8, U16, U16, U8, U32], 6, 5),
-        CLOCK | WAIT | LOSE => fields_like([U32, 0, 0, 0, 0, 0], 1, 1),
-        DAMAGE => fields_like([U32, BYTES, 0, 0, 0, 0], 2, 2),
-        CARRY | ROUND => fields_like([U8, 0, 0, 0, 0, 0], 1, 0),
-        _ => fields_like([0; 6], 0, 0),
+        SUBMIT => fields_from(11, 13, 2),
+        CARRY => fields_from(9, 11, 1),
+        LOSE => fields_from(6, 8, 2),
+        DAMAGE => fields_from(6, 9, 3),
+        WAIT => fields_from(7, 8, 1),
+        ROUND => fields_from(10, 11, 0),
+        CLOCK => fields_from(7, 8, 1),
+        PAIR => fields_from(0, 6, 5),
+        TELL => fields_from(12, 13, 0),
+        BAD => fields_from(0, 0, 1),
+        _ => match verb <= RESYNCHRONISE {
+            true => fields_from(6, 7, 1),
+            false => fields_from(0, 0, 0),
+        },
     }
 }
 
-fn first_of(numbers: &[u64], count: usize) -> &[u64] {
-    let end = text::least(count, numbers.len());
-    &numbers[0..end]
-}
-
-fn numbers_of(line: &[u8], at: usize, verb: usize) -> Fields {
-    let f = form_of(verb);
-    let largest = f.largest;
-    let mut bytes = [0u8; MOST_BYTES];
-    field::read_all(line, at, first_of(&largest, f.most), f.least, &mut bytes)
-}
-
-// A text stands behind a space; tell has also none.
-fn text_of(line: &[u8], at: usize, verb: usize) -> Fields {
-    let rest = rest_of(line, at);
-    let mut good = verb == TELL;
-    if 0 < rest.len() {
-        good = rest[0] == SPACE;
-    }
-    Fields {
-        values: [0; field::FIELDS],
-        good,
-    }
-}
-
-fn fields_of(line: &[u8], at: usize, verb: usize) -> Fields {
-    if (verb == TELL) | (verb == SUBMIT) {
-        return text_of(line, at, verb);
-    }
-    numbers_of(line, at, verb)
-}
-
-// ---- orders
-
-fn order_at(line: &[u8], at: usize, verb: usize, end: usize) -> Order {
-    let fields = fields_of(line, at, verb);
+fn order_of(verb: usize, f: Fields) -> Order {
+    let values = f.values;
+    let good = f.good;
     Order {
-        number: fields.values[0],
-        rest: std::num::wrapping_add_usize(at, 1),
-        verb,
-        end,
-        good: fields.good & (verb < UNKNOWN) & (end <= CHIP),
+        values,
+        count: f.count,
+        verb: match good {
+            true => verb,
+            false => BAD,
+        },
     }
 }
 
-fn order_at_end(line: &[u8], at: usize, verb: usize) -> Order {
-    let name = word_at(line, at);
-    let end = field::place_of(name, b"desk chip");
-    order_at(
-        line,
-        std::num::wrapping_add_usize(at, name.len()),
+fn read_line(line: &[u8], bytes: &mut [u8]) -> Order {
+    let at = field::word_end(line);
+    let verb = field::place_of(
+        part(line, 0, at),
+        b"submit carry look acknowledge resynchronise lose damage wait round clock settle pair end show tell",
+    );
+    order_of(
         verb,
-        end,
+        field::read_form(line, at, &FIELDS, form_of(verb), bytes),
     )
 }
 
-// The line's command.
-pub fn read(line: &[u8]) -> Order {
-    let word = word_at(line, 0);
-    let verb = verb_of(word);
-    if verb < SUBMIT {
-        return order_at(line, word.len(), verb, DESK);
+fn none(verb: usize) -> Order {
+    Order {
+        values: [0; field::FIELDS],
+        count: 0,
+        verb,
     }
-    order_at_end(line, std::num::wrapping_add_usize(word.len(), 1), verb)
+}
+
+// The command of the line that the reader is at, if it is at one; its bytes are laid in `bytes`.
+pub fn read(line: &[u8], r: Reader, bytes: &mut [u8]) -> Order {
+    match lines::kind(line, r) {
+        lines::LINE => read_line(line, bytes),
+        lines::LONG => none(BAD),
+        _ => none(SILENT),
+    }
 }

@@ -1,220 +1,170 @@
-// The words of the story. A line is written phrase by phrase: each function here writes one, chosen by numbers, and no text is handed
-// about.
+// The words of the story. A line is written phrase by phrase: each is chosen by a number, and no text is handed about.
 use base::answer;
+use base::buffer::part;
 use frame::Format;
 use text::heard;
 use text::lay;
-use text::lay::from_u8;
-use text::lay::from_u32;
 use text::least;
-
-// Longer than any phrase.
-const PHRASE: usize = 256;
 
 // A packet is told up to here.
 const TOLD: usize = 60;
 
 // ---- phrases
 
-// Writes template n of the templates apart by `|`, each `%` of it as the next number.
-fn write(templates: &[u8], n: usize, numbers: &[u64]) {
-    let mut out = [0u8; PHRASE];
-    let at = lay::add_chosen(&mut out, 0, templates, n, numbers);
-    lay::write_out(&out, at);
+// Writes a phrase by its place, and the numbers in it.
+pub fn say(n: usize, a: u64, b: u64, c: u64) {
+    lay::write_chosen(
+        b"the desk|the chip| submits | hears | looks at the clock| acknowledges now| resynchronises|[%] |, delivers |, frees %|, drops %|, sends |, which is lost: too many frames are on their way| from | is lost| stays: no frame has over 1024 bytes| is damaged: now |no such frame is on its way from | has taken 64 packets, and a story keeps no more|\"|\"..|noise (% bytes)|[%] % ms later\n|[%] -- round %\n|[%] -- a link is lost; timer rounds: %, milliseconds: %\n|[%] -- all is through; timer rounds: %, milliseconds: %\n|[%] -- nothing waits any more; timer rounds: %, milliseconds: %\n|[%] -- not all is through; timer rounds: %, milliseconds: %\n|bad line %\n|the desk and the chip start: D %, window %, a packet again after % ms|, at most % times, an acknowledgement after % ms|: sends number % next, expects %, waiting packets: %|, owes an acknowledgement|, has sent its nak|, link lost|  on its way there: |-- in the end\n| got % of % packets taken at |, each once and in order|; dropped there by a reset: %|  |waiting at the desk: %|, at the chip: %| (link lost)|timer rounds: %, milliseconds: %\n|\n",
+        n,
+        a,
+        b,
+        c,
+    );
 }
 
-// 1 where it is so, else 0: the place of a phrase.
-pub fn second_if(is_so: bool) -> usize {
-    if is_so { 1 } else { 0 }
-}
-
-// Ends the line.
-pub fn end_line() {
-    lay::write(b"\n");
-}
-
-// The clock, before what happens at it.
-pub fn clock(clock: u32) {
-    write(b"[%] ", 0, &[from_u32(clock)]);
-}
-
-// The end's name.
+// Who: by the number of the end.
 pub fn name(end: usize) {
-    write(b"the desk|the chip", end, &[]);
+    say(end % 2, 0, 0, 0);
 }
 
-// What an end does, by the place of its words.
-pub fn deed(n: usize) {
-    write(
-        b" submits | hears | looks at the clock| acknowledges now| resynchronises",
-        n,
-        &[],
-    );
+// What an end does: from this place on, by the kind of its move.
+pub const DOES: usize = 2;
+
+// A move, and what comes of it.
+pub const CLOCK: usize = 7;
+
+pub const DELIVERS: usize = 8;
+
+pub const FREES: usize = 9;
+
+pub const DROPS: usize = 10;
+
+pub const SENDS: usize = 11;
+
+pub const CROWDED: usize = 12;
+
+pub const FROM: usize = 13;
+
+pub const LOST: usize = 14;
+
+pub const STAYS: usize = 15;
+
+pub const DAMAGED: usize = 16;
+
+pub const NOT_THERE: usize = 17;
+
+pub const FULL: usize = 18;
+
+const QUOTE: usize = 19;
+
+const CUT_OFF: usize = 20;
+
+const NOISE: usize = 21;
+
+pub const LATER: usize = 22;
+
+pub const ROUND: usize = 23;
+
+// What rounds came to.
+pub const A_LINK_LOST: usize = 24;
+
+pub const ALL_THROUGH: usize = 25;
+
+pub const NONE_WAITS: usize = 26;
+
+pub const NOT_THROUGH: usize = 27;
+
+pub const BAD: usize = 28;
+
+// The settings of a pair that starts.
+pub const START: usize = 29;
+
+pub const REPEATS: usize = 30;
+
+// An end at a moment.
+pub const NUMBERS: usize = 31;
+
+pub const OWES: usize = 32;
+
+pub const COMPLAINED: usize = 33;
+
+pub const LINK_LOST: usize = 34;
+
+pub const ON_ITS_WAY: usize = 35;
+
+// The ending.
+pub const IN_THE_END: usize = 36;
+
+pub const GOT: usize = 37;
+
+pub const IN_ORDER: usize = 38;
+
+pub const DROPPED: usize = 39;
+
+pub const INDENT: usize = 40;
+
+pub const AT_DESK: usize = 41;
+
+pub const AT_CHIP: usize = 42;
+
+pub const IS_LOST: usize = 43;
+
+pub const TIME: usize = 44;
+
+pub const END_LINE: usize = 45;
+
+// No words.
+pub const NOTHING: usize = 46;
+
+// Writes the phrase, if its number is not 0.
+pub fn say_some(n: usize, number: u64) {
+    match number {
+        0 => {}
+        _ => say(n, number, 0, 0),
+    }
 }
 
-// What came of it, by the place of its words, and a number in them.
-pub fn result(n: usize, number: u64) {
-    write(
-        b", frees %|, drops %|, delivers |, sends |, which is lost: too many frames are on their way",
-        n,
-        &[number],
-    );
+// Writes the phrase, if it is so.
+pub fn say_if(is_so: bool, n: usize) {
+    match is_so {
+        true => say(n, 0, 0, 0),
+        false => {}
+    }
 }
-
-pub const FREES: usize = 0;
-
-pub const DROPS: usize = 1;
-
-pub const DELIVERS: usize = 2;
-
-pub const SENDS: usize = 3;
-
-pub const CROWDED: usize = 4;
-
-// What becomes of a frame on its way, by the place of its words.
-pub fn fate(n: usize) {
-    write(
-        b" is lost| stays: no frame has over 1024 bytes| is damaged: now | from |no such frame is on its way from | has taken 64 packets, and a story keeps no more",
-        n,
-        &[],
-    );
-}
-
-pub const LOST: usize = 0;
-
-pub const STAYS: usize = 1;
-
-pub const DAMAGED: usize = 2;
-
-pub const FROM: usize = 3;
-
-pub const NOT_THERE: usize = 4;
-
-pub const FULL: usize = 5;
 
 // ---- packets and frames
 
 // A packet in quotes; of a long one the beginning.
 pub fn packet(packet: &[u8]) {
-    let mut out = [0u8; PHRASE];
-    let count = least(packet.len(), TOLD);
-    lay::write(b"\"");
-    let at = lay::add_printable(&mut out, 0, &packet[0..count]);
-    lay::write_out(&out, at);
-    write(b"\"|\"..", second_if(TOLD < packet.len()), &[]);
+    say(QUOTE, 0, 0, 0);
+    lay::write_printable(part(packet, 0, least(packet.len(), TOLD)));
+    match TOLD < packet.len() {
+        true => say(CUT_OFF, 0, 0, 0),
+        false => say(QUOTE, 0, 0, 0),
+    }
 }
 
 // A frame's name, as an end with that format hears it.
 pub fn frame(format: Format, frame: &[u8]) {
     let heard = frame::hear(format, frame);
-    if frame::refusal(heard) == answer::DONE {
-        heard::write_heard(heard);
-        return;
+    match frame::refusal(heard) {
+        answer::DONE => heard::write_heard(heard),
+        _ => say(NOISE, frame.len() as u64, 0, 0),
     }
-    write(b"noise (% bytes)", 0, &[frame.len() as u64]);
 }
 
 // ---- answers
 
-// Which of answer's templates it has.
-fn place_of(answer: u8) -> usize {
-    match answer {
-        answer::DONE => 0,
-        answer::OUT_OF_RANGE => 2,
-        answer::LINK_LOST => 3,
-        answer::PACKET_SIZE => 4,
-        answer::WINDOW_FULL => 5,
-        answer::BAD_FRAME => 6,
-        answer::UNUSED_CODE => 7,
-        answer::CONTROL_SIZE => 8,
-        answer::UNEXPECTED => 9,
-        _ => 1,
-    }
-}
+// From here on an answer has no words.
+const WORDLESS: usize = answer::CHAIN_FAULT as usize;
 
-// What a call answers, if it refuses.
+// What a call answers, if it refuses; the words in the order of the answers' numbers.
 pub fn answer(answer: u8) {
-    write(
-        b"|, answers %|, answers % (a setting out of range)|, answers % (link lost)|, answers % (packet empty or too long)|, answers % (window full)|, answers % (size or checksum)|, answers % (unused code)|, answers % (control frame with a packet)|, answers % (not the expected number)",
-        place_of(answer),
-        &[from_u8(answer)],
-    );
-}
-
-// ---- whole lines
-
-// A line that stands by itself, by its place, and the numbers in it.
-pub fn line(n: usize, a: u64, b: u64, c: u64) {
-    write(
-        b"[%] % ms later\n|[%] -- round %\n|[%] -- a link is lost; timer rounds: %, milliseconds: %\n|[%] -- all is through; timer rounds: %, milliseconds: %\n|[%] -- nothing waits any more; timer rounds: %, milliseconds: %\n|[%] -- not all is through; timer rounds: %, milliseconds: %\n|-- in the end\n|timer rounds: %, milliseconds: %\n|bad line %\n",
-        n,
-        &[a, b, c],
-    );
-}
-
-pub const LATER: usize = 0;
-
-pub const ROUND: usize = 1;
-
-pub const SETTLED: usize = 2;
-
-pub const IN_THE_END: usize = 6;
-
-pub const TIME: usize = 7;
-
-pub const BAD: usize = 8;
-
-// ---- the ending, and a moment
-
-// What is told of an end at a moment, by its place, and the numbers in it.
-pub fn moment(n: usize, a: u64, b: u64, c: u64) {
-    write(
-        b": sends number % next, expects %, waiting packets: %|, owes an acknowledgement|, has sent its nak|, link lost|  on its way there: ",
-        n,
-        &[a, b, c],
-    );
-}
-
-pub const NUMBERS: usize = 0;
-
-pub const OWES: usize = 1;
-
-pub const COMPLAINED: usize = 2;
-
-pub const LINK_LOST: usize = 3;
-
-pub const ON_ITS_WAY: usize = 4;
-
-// What is told in the end, by its place, and the numbers in it.
-pub fn ending(n: usize, a: u64, b: u64) {
-    write(
-        b" got % of % packets taken at |, each once and in order|; dropped there by a reset: %|  |waiting at the desk: %|, at the chip: %| (link lost)",
-        n,
-        &[a, b],
-    );
-}
-
-pub const GOT: usize = 0;
-
-pub const IN_ORDER: usize = 1;
-
-pub const DROPPED: usize = 2;
-
-pub const INDENT: usize = 3;
-
-pub const AT_DESK: usize = 4;
-
-pub const AT_CHIP: usize = 5;
-
-pub const IS_LOST: usize = 6;
-
-// ---- settings
-
-// The settings of a pair that starts: D, window, transmit timeout, repeats, acknowledge timeout.
-pub fn settings(numbers: &[u64]) {
-    write(
-        b"the desk and the chip start: D %, window %, a packet again after % ms, at most % times, an acknowledgement after % ms",
+    lay::write_chosen(
+        b"|, answers % (a setting out of range)|, answers %|, answers % (link lost)|, answers % (packet empty or too long)|, answers % (window full)|, answers % (size or checksum)|, answers % (unused code)|, answers % (control frame with a packet)|, answers % (not the expected number)|, answers %",
+        least(answer as usize, WORDLESS),
+        answer as u64,
         0,
-        numbers,
+        0,
     );
 }

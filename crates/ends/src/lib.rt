@@ -21,12 +21,14 @@ pub const STORE: usize = 136450;
 // chip, and a spare place. One store, in which an end has its offset, is lent to a move whichever end it is at.
 pub type Store = [u8; STORE];
 
-// first, queue: where in their ring the frames on their way to the end begin, and how many they are. dropped: how many packets that it
-// took a reset has dropped.
+// first, queue: where in their ring the frames on their way to the end begin, and how many they are. taken, delivered, dropped: how many
+// packets it took, how many it delivered, and how many of those that it took a reset has dropped.
 pub struct End {
     pub link: Link,
     pub first: usize,
     pub queue: usize,
+    pub taken: usize,
+    pub delivered: usize,
     pub dropped: u64,
 }
 
@@ -41,30 +43,32 @@ pub struct Ends {
 
 // The number of the other end.
 pub fn other(end: usize) -> usize {
-    if end == DESK { CHIP } else { DESK }
+    match end {
+        DESK => CHIP,
+        _ => DESK,
+    }
 }
 
 // The end of that number.
 pub fn end_of(p: Ends, end: usize) -> End {
-    if end == DESK {
-        return p.desk;
+    match end {
+        DESK => p.desk,
+        _ => p.chip,
     }
-    p.chip
 }
 
-// The state of the end's link.
-pub fn link_of(p: Ends, end: usize) -> Link {
-    let e = end_of(p, end);
-    e.link
-}
-
-// The same ends but for that one.
-pub fn with_end(p: Ends, end: usize, e: End) -> Ends {
+// The same clock, with these as the end of that number and as the other.
+fn with_both(p: Ends, end: usize, here: End, there: End) -> Ends {
     let mut k = p;
-    if end == DESK {
-        k.desk = e;
-    } else {
-        k.chip = e;
+    match end {
+        DESK => {
+            k.desk = here;
+            k.chip = there;
+        }
+        _ => {
+            k.desk = there;
+            k.chip = here;
+        }
     }
     k
 }
@@ -73,7 +77,10 @@ pub fn with_end(p: Ends, end: usize, e: End) -> Ends {
 fn slots_of(end: usize) -> usize
     ensures { λ r. ⌜ r ≤ 2048 ⌝ }
 {
-    if end == DESK { 0 } else { SLOTS }
+    match end {
+        DESK => 0,
+        _ => SLOTS,
+    }
 }
 
 // ---- the start of both
@@ -84,24 +91,28 @@ pub struct Started {
     pub answer: u8,
 }
 
-fn new_end(link: Link) -> End {
-    End {
+// Two ends in one state, nothing on its way between them.
+fn new_ends(link: Link, clock: u32) -> Ends {
+    let e = End {
         link,
         first: 0,
         queue: 0,
+        taken: 0,
+        delivered: 0,
         dropped: 0,
-    }
-}
-
-// Two ends in one state, nothing on its way between them.
-fn new_ends(link: Link, clock: u32) -> Ends {
+    };
     Ends {
-        desk: new_end(link),
-        chip: new_end(link),
+        desk: e,
+        chip: e,
         passed: 0,
         rounds: 0,
         clock,
     }
+}
+
+// The ends before any start: nothing is set, and every call answers so.
+pub fn nobody() -> Ends {
+    new_ends(state::zero_state(), 0)
 }
 
 // Both ends started with these settings: where a setting is out of range they are zeros, and answer so to every call.

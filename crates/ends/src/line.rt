@@ -4,7 +4,10 @@ use crate::End;
 use crate::Ends;
 use crate::Store;
 use crate::end_of;
-use crate::with_end;
+use crate::other;
+use crate::with_both;
+use base::buffer::copy_at;
+use base::buffer::part;
 ghost use Prim.Native.Nat.{_+_, _≤_};
 ghost use lib.ListN.{length};
 
@@ -26,17 +29,15 @@ const SPARE: usize = 135424;
 
 // ---- places
 
-fn ring_of(end: usize) -> usize
-    ensures { λ r. ⌜ r ≤ 69760 ⌝ }
-{
-    if end == DESK { TO_DESK } else { TO_CHIP }
-}
-
 // Where the place is that is n behind the first of a ring.
 fn place_of(end: usize, first: usize, n: usize) -> usize
     ensures { λ r. ⌜ r ≤ 134398 ⌝ }
 {
-    ring_of(end) + (first % PLACES + n % PLACES) % PLACES * PLACE
+    let offset = (first % PLACES + n % PLACES) % PLACES * PLACE;
+    match end {
+        DESK => TO_DESK + offset,
+        _ => TO_CHIP + offset,
+    }
 }
 
 // Where the next frame to the end is laid.
@@ -44,10 +45,10 @@ pub fn free_place(p: Ends, end: usize) -> usize
     ensures { λ r. ⌜ r ≤ 135424 ⌝ }
 {
     let e = end_of(p, end);
-    if e.queue < PLACES {
-        return place_of(end, e.first, e.queue);
+    match e.queue < PLACES {
+        true => place_of(end, e.first, e.queue),
+        false => SPARE,
     }
-    SPARE
 }
 
 // Where frame n of those on their way to the end begins, its length before it.
@@ -60,17 +61,13 @@ pub fn place_at(p: Ends, end: usize, n: usize) -> usize
 
 // ---- what lies on a place
 
-fn joined_bytes(high: u8, low: u8) -> usize
-    ensures { λ r. ⌜ r ≤ 1024 ⌝ }
-{
-    let count = high as usize * 256 + low as usize;
-    if count < FRAME { count } else { FRAME }
+fn joined_bytes(high: u8, low: u8) -> usize {
+    high as usize * 256 + low as usize
 }
 
 // How long the bytes at that place of a store are.
 pub fn length_at(store: &[u8], place: usize) -> usize
     requires { ⌜ place + 1026 ≤ length (now store) ⌝ }
-    ensures { λ r. ⌜ r ≤ 1024 ⌝ }
 {
     joined_bytes(store[place], store[place + 1])
 }
@@ -83,22 +80,10 @@ pub fn set_length(store: &mut [u8], place: usize, count: usize)
     store[place + 1] = (count % 256) as u8;
 }
 
-// So many bytes of a store; none where it has not so many.
-pub fn bytes_at(store: &[u8], at: usize, count: usize) -> &[u8] {
-    let end = std::num::wrapping_add_usize(at, count);
-    if end < at {
-        return &store[0..0];
-    }
-    if store.len() < end {
-        return &store[0..0];
-    }
-    &store[at..end]
-}
-
 // Frame n of those on their way to the end.
 pub fn frame_at(store: &Store, p: Ends, end: usize, n: usize) -> &[u8] {
     let place = place_at(p, end, n);
-    bytes_at(store, place + 2, length_at(store, place))
+    part(store, place + 2, length_at(store, place))
 }
 
 // Lays bytes at that place of a store, if they are not too many.
@@ -107,17 +92,21 @@ pub fn put(store: &mut [u8], place: usize, bytes: &[u8])
 {
     if bytes.len() <= FRAME {
         set_length(store, place, bytes.len());
-        base::buffer::copy_at(store, place + 2, bytes);
+        copy_at(store, place + 2, bytes);
     }
 }
 
 // ---- queues
 
-// An empty ring begins at its first place again, so that the same memory stays in use.
-fn with_queue(e: End, first: usize, queue: usize) -> End {
+// The end with a ring that begins there and is so long. An empty one begins at its first place again, so that the same memory stays in
+// use.
+pub fn with_queue(e: End, first: usize, queue: usize) -> End {
     let mut k = e;
     k.queue = queue;
-    k.first = if queue == 0 { 0 } else { first };
+    k.first = match queue {
+        0 => 0,
+        _ => first,
+    };
     k
 }
 
@@ -152,26 +141,25 @@ fn close_up(store: &mut Store, end: usize, first: usize, n: usize, last: usize) 
     }
 }
 
-// The end without frame n of those on their way to it. Where it is the first or the last, nothing is copied.
-fn without(e: End, end: usize, store: &mut Store, n: usize) -> End {
-    if n == 0 {
-        return without_first(e);
-    }
-    let last = std::num::wrapping_sub_usize(e.queue, 1);
-    close_up(store, end, e.first, n, last);
-    with_queue(e, e.first, last)
-}
-
 // Frame n of those on their way to the end is lost, if it is there.
 pub fn lose(p: Ends, end: usize, store: &mut Store, n: usize) -> Ends {
     let e = end_of(p, end);
-    if n < e.queue {
-        return with_end(p, end, without(e, end, store, n));
+    let last = std::num::wrapping_sub_usize(e.queue, 1);
+    match n < e.queue {
+        true => {
+            close_up(store, end, e.first, n, last);
+            with_both(p, end, with_queue(e, e.first, last), end_of(p, other(end)))
+        }
+        false => p,
     }
-    p
 }
 
-// Frame n of those on their way to the end becomes these bytes, if a frame can have so many.
-pub fn damage(p: Ends, end: usize, store: &mut Store, n: usize, bytes: &[u8]) {
-    put(store, place_at(p, end, n), bytes);
+// Frame n of those on their way to the end becomes these bytes, if it is there and a frame can have so many.
+pub fn damage(p: Ends, end: usize, store: &mut Store, n: usize, bytes: &[u8]) -> Ends {
+    let e = end_of(p, end);
+    match n < e.queue {
+        true => put(store, place_of(end, e.first, n), bytes),
+        false => {}
+    }
+    p
 }

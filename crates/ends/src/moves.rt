@@ -1,4 +1,5 @@
-// What can happen at an end: a packet is submitted, a frame arrives, a call is made; and the clock goes on.
+// What can happen: a packet is submitted at an end, a frame arrives there, another call is made; a frame on its way is lost or damaged;
+// the clock goes on, a timer round begins.
 use crate::End;
 use crate::Ends;
 use crate::SLOTS;
@@ -7,41 +8,71 @@ use crate::end_of;
 use crate::line;
 use crate::line::FRAME;
 use crate::line::PLACES;
-use crate::link_of;
 use crate::other;
 use crate::slots_of;
-use crate::with_end;
+use crate::with_both;
+use base::answer::DONE;
+use base::buffer::part;
 use state::Link;
 use state::Outcome;
 ghost use Prim.Native.Nat.{_+_, _≤_};
 ghost use lib.ListN.{length};
 
-// The calls at an end, but for that by which a frame arrives.
-pub enum Call {
-    Look,
-    Acknowledge,
-    Resynchronise,
+// ---- moves
+
+// The calls at an end; the first frame on its way to it is carried there, which is its call to take it.
+pub const SUBMIT: usize = 0;
+
+pub const CARRY: usize = 1;
+
+pub const LOOK: usize = 2;
+
+pub const ACKNOWLEDGE: usize = 3;
+
+pub const RESYNCHRONISE: usize = 4;
+
+// Frame `number` of those on their way to the end, from 0 on.
+pub const LOSE: usize = 5;
+
+pub const DAMAGE: usize = 6;
+
+// `number` milliseconds pass.
+pub const PASS: usize = 7;
+
+// A timer round begins.
+pub const ROUND: usize = 8;
+
+// Nothing; as every kind from here on.
+pub const OVER: usize = 9;
+
+pub struct Move {
+    pub kind: usize,
+    pub end: usize,
+    pub number: u32,
 }
 
-// The first frame on its way to an end arrives there; a packet is submitted at an end; another call at it; so many milliseconds pass; or
-// nothing is left to do.
-pub enum Move {
-    Carry(usize),
-    Submit(usize),
-    Call(Call, usize),
-    Pass(u32),
-    Over,
+// A move at an end.
+pub fn at_end(kind: usize, end: usize) -> Move {
+    Move {
+        kind,
+        end,
+        number: 0,
+    }
 }
 
-// What came of a move. heard_at: where in the store the frame begins that arrived. sent_at, sent: where the frame begins that was sent,
-// and its length; 0 where none was. delivered: how many bytes of a packet, which are those of the frame that arrived from byte 3 on.
-// dropped: how many waiting packets a reset dropped. is_crowded: what was sent is lost, since 64 frames are on their way already.
+// ---- what came of it
+
+// heard_at: where in the store the frame begins that arrived. sent_at, sent: where the frame begins that was sent, and its length; 0
+// where none was. delivered: how many bytes of a packet, which are those of the frame that arrived from byte 3 on. freed, dropped: how
+// many packets wait no more because they were acknowledged, and because of a reset. is_crowded: what was sent is lost, since 64 frames
+// are on their way already.
 pub struct Event {
     pub heard_at: usize,
     pub sent_at: usize,
     pub sent: usize,
     pub delivered: usize,
     pub answer: u8,
+    pub freed: u8,
     pub dropped: u8,
     pub is_crowded: bool,
 }
@@ -51,94 +82,120 @@ pub struct Moved {
     pub event: Event,
 }
 
-// ---- what came of it
-
-// Nothing happened.
-fn unmoved(p: Ends) -> Moved {
+// The ends after a move that is no call.
+fn without_event(p: Ends) -> Moved {
     let event = Event {
         heard_at: 0,
         sent_at: 0,
         sent: 0,
         delivered: 0,
-        answer: base::answer::DONE,
+        answer: DONE,
+        freed: 0,
         dropped: 0,
         is_crowded: false,
     };
     Moved { ends: p, event }
 }
 
-// heard_at, sent_at: where the frames are, if one arrived and one was sent. is_full: no more can be on their way.
-fn event_of(o: Outcome, heard_at: usize, sent_at: usize, is_full: bool) -> Event {
-    Event {
-        heard_at,
-        sent_at,
-        sent: o.sent as usize,
-        delivered: o.delivered as usize,
-        answer: o.answer,
-        dropped: o.dropped,
-        is_crowded: is_full & (0 < o.sent),
+// A reset drops all that waits; nothing else but an acknowledgement makes it fewer.
+fn freed(waited: u8, o: Outcome) -> u8 {
+    match (o.dropped == 0) & (o.state.waiting < waited) {
+        true => std::num::wrapping_sub_u8(waited, o.state.waiting),
+        false => 0,
     }
 }
 
-fn after_call(e: End, o: Outcome) -> End {
-    let mut k = e;
+fn counted(n: usize, is_one: bool) -> usize {
+    match is_one {
+        true => std::num::wrapping_add_usize(n, 1),
+        false => n,
+    }
+}
+
+// The end at which the call was made. What is carried is on its way no more.
+fn after_call(e: End, kind: usize, o: Outcome) -> End {
+    let mut k = match kind {
+        CARRY => line::without_first(e),
+        _ => e,
+    };
     let state = o.state;
     k.link = state;
+    k.taken = counted(e.taken, (kind == SUBMIT) & (o.answer == DONE));
+    k.delivered = counted(e.delivered, 0 < o.delivered);
     k.dropped = std::num::wrapping_add_u64(e.dropped, o.dropped as u64);
     k
 }
 
+// The other end, with what was sent on its way to it, if there is room.
 fn after_sending(e: End, sent: u16) -> End {
-    let mut k = e;
-    if (0 < sent) & (e.queue < PLACES) {
-        k.queue = std::num::wrapping_add_usize(e.queue, 1);
+    match (0 < sent) & (e.queue < PLACES) {
+        true => line::with_queue(e, e.first, std::num::wrapping_add_usize(e.queue, 1)),
+        false => e,
     }
-    k
 }
 
-// The ends after a call at one of them.
-fn after(p: Ends, end: usize, o: Outcome, heard_at: usize, sent_at: usize) -> Moved {
-    let there = end_of(p, other(end));
-    let called = with_end(p, end, after_call(end_of(p, end), o));
+fn after(p: Ends, m: Move, o: Outcome, sent_at: usize) -> Moved {
+    let here = end_of(p, m.end);
+    let there = end_of(p, other(m.end));
+    let k = after_call(here, m.kind, o);
     Moved {
-        ends: with_end(called, other(end), after_sending(there, o.sent)),
-        event: event_of(o, heard_at, sent_at, PLACES <= there.queue),
+        ends: with_both(p, m.end, k, after_sending(there, o.sent)),
+        event: Event {
+            heard_at: line::place_at(p, m.end, 0) + 2,
+            sent_at,
+            sent: o.sent as usize,
+            delivered: o.delivered as usize,
+            answer: o.answer,
+            freed: freed(here.link.waiting, o),
+            dropped: o.dropped,
+            is_crowded: (PLACES <= there.queue) & (0 < o.sent),
+        },
     }
 }
 
-// ---- a call
+// ---- calls
 
-// What was sent is laid at its place, if anything was.
-fn send(store: &mut Store, place: usize, frame: &[u8], sent: usize)
-    requires { ⌜ place ≤ 135424 ⌝ }
-{
-    if sent == 0 {
-        return;
-    }
-    if sent <= frame.len() {
-        line::put(store, place, &frame[0..sent]);
+// Room for the longest frame.
+type Frame = [u8; FRAME];
+
+fn look(l: Link, slots: &[u8], frame: &mut Frame, ms: u32) -> Outcome {
+    let looked = link::look(l, slots, frame, ms);
+    looked.outcome
+}
+
+// The calls that leave the slots as they are. received: the frame that a carry brings.
+fn reading(
+    kind: usize,
+    l: Link,
+    slots: &[u8],
+    frame: &mut Frame,
+    ms: u32,
+    received: &[u8],
+) -> Outcome {
+    match kind {
+        CARRY => link::take(l, slots, frame, ms, received),
+        LOOK => look(l, slots, frame, ms),
+        ACKNOWLEDGE => link::acknowledge(l, slots, frame, ms),
+        _ => link::resynchronise(l, slots, frame, ms),
     }
 }
 
-// The ends after a call at one of them, with the frame that it sent on its way.
-fn sent_on(
-    p: Ends,
-    end: usize,
-    o: Outcome,
-    heard_at: usize,
-    store: &mut Store,
-    frame: &[u8],
-) -> Moved {
-    let place = line::free_place(p, other(end));
-    send(store, place, frame, o.sent as usize);
-    after(p, end, o, heard_at, place + 2)
+fn read_at(p: Ends, m: Move, l: Link, store: &Store, frame: &mut Frame) -> Outcome {
+    reading(
+        m.kind,
+        l,
+        part(store, slots_of(m.end), SLOTS),
+        frame,
+        p.clock,
+        line::frame_at(store, p, m.end, 0),
+    )
 }
 
 fn submit_at(
     l: Link,
     store: &mut [u8],
     from: usize,
-    frame: &mut [u8],
+    frame: &mut Frame,
     ms: u32,
     packet: &[u8],
 ) -> Outcome
@@ -148,104 +205,69 @@ fn submit_at(
     link::submit(l, &mut store[from..end], frame, ms, packet)
 }
 
-fn submit(p: Ends, end: usize, store: &mut Store, packet: &[u8]) -> Moved {
-    let mut frame = [0u8; FRAME];
-    let from = slots_of(end);
-    let o = submit_at(link_of(p, end), store, from, &mut frame, p.clock, packet);
-    sent_on(p, end, o, 0, store, &frame)
-}
-
-fn look(l: Link, slots: &[u8], frame: &mut [u8], ms: u32) -> Outcome {
-    let looked = link::look(l, slots, frame, ms);
-    looked.outcome
-}
-
-fn outcome_of(call: Call, l: Link, slots: &[u8], frame: &mut [u8], ms: u32) -> Outcome {
-    match call {
-        Call::Look => look(l, slots, frame, ms),
-        Call::Acknowledge => link::acknowledge(l, slots, frame, ms),
-        Call::Resynchronise => link::resynchronise(l, slots, frame, ms),
+fn outcome_of(p: Ends, m: Move, store: &mut Store, frame: &mut Frame, packet: &[u8]) -> Outcome {
+    let e = end_of(p, m.end);
+    let kind = m.kind;
+    match kind {
+        SUBMIT => submit_at(e.link, store, slots_of(m.end), frame, p.clock, packet),
+        _ => read_at(p, m, e.link, store, frame),
     }
 }
 
-fn call_at(call: Call, l: Link, store: &[u8], from: usize, frame: &mut [u8], ms: u32) -> Outcome
-    requires { ⌜ from + 2048 ≤ length (now store) ⌝ }
-{
-    let end = from + SLOTS;
-    outcome_of(call, l, &store[from..end], frame, ms)
+// The ends after a call at one of them, with the frame that it sent on its way.
+fn sent_on(p: Ends, m: Move, o: Outcome, store: &mut Store, frame: &Frame) -> Moved {
+    let place = line::free_place(p, other(m.end));
+    line::put(store, place, part(frame, 0, o.sent as usize));
+    after(p, m, o, place + 2)
 }
 
-fn make_call(p: Ends, end: usize, call: Call, store: &mut Store) -> Moved {
+fn call(p: Ends, m: Move, store: &mut Store, packet: &[u8]) -> Moved {
     let mut frame = [0u8; FRAME];
-    let from = slots_of(end);
-    let o = call_at(call, link_of(p, end), store, from, &mut frame, p.clock);
-    sent_on(p, end, o, 0, store, &frame)
-}
-
-// ---- a frame arrives
-
-fn take_at(
-    l: Link,
-    store: &[u8],
-    from: usize,
-    frame: &mut [u8],
-    ms: u32,
-    at: usize,
-    count: usize,
-) -> Outcome
-    requires { ⌜ (from + 2048 ≤ length (now store)) × (at + count ≤ length (now store)) ⌝ }
-{
-    let slots_end = from + SLOTS;
-    let received_end = at + count;
-    link::take(
-        l,
-        &store[from..slots_end],
-        frame,
-        ms,
-        &store[at..received_end],
-    )
-}
-
-// The frame at that place arrives at the end.
-fn take(p: Ends, end: usize, store: &mut Store, place: usize) -> Moved
-    requires { ⌜ place ≤ 134398 ⌝ }
-{
-    let mut frame = [0u8; FRAME];
-    let from = slots_of(end);
-    let at = place + 2;
-    let count = line::length_at(store, place);
-    let o = take_at(link_of(p, end), store, from, &mut frame, p.clock, at, count);
-    sent_on(p, end, o, at, store, &frame)
-}
-
-fn carry(p: Ends, end: usize, store: &mut Store) -> Moved {
-    let e = end_of(p, end);
-    if e.queue == 0 {
-        return unmoved(p);
-    }
-    let place = line::place_at(p, end, 0);
-    take(with_end(p, end, line::without_first(e)), end, store, place)
-}
-
-// ---- the clock
-
-// The ends so many milliseconds later.
-pub fn pass(p: Ends, ms: u32) -> Ends {
-    let mut k = p;
-    k.clock = std::num::wrapping_add_u32(p.clock, ms);
-    k.passed = std::num::wrapping_add_u64(p.passed, ms as u64);
-    k
+    let o = outcome_of(p, m, store, &mut frame, packet);
+    sent_on(p, m, o, store, &frame)
 }
 
 // ---- every move
 
-// The ends after a move, and what came of it. packet: what a submit is handed; no other move reads it.
-pub fn make(p: Ends, m: Move, store: &mut Store, packet: &[u8]) -> Moved {
-    match m {
-        Move::Carry(end) => carry(p, end, store),
-        Move::Submit(end) => submit(p, end, store, packet),
-        Move::Call(call, end) => make_call(p, end, call, store),
-        Move::Pass(ms) => unmoved(pass(p, ms)),
-        Move::Over => unmoved(p),
+// The clock's moves.
+fn timely(p: Ends, m: Move) -> Ends {
+    let mut k = p;
+    let kind = m.kind;
+    match kind {
+        PASS => {
+            k.clock = std::num::wrapping_add_u32(p.clock, m.number);
+            k.passed = std::num::wrapping_add_u64(p.passed, m.number as u64);
+        }
+        ROUND => k.rounds = std::num::wrapping_add_u64(p.rounds, 1),
+        _ => {}
+    }
+    k
+}
+
+// The moves that are no calls.
+fn uncalled(p: Ends, m: Move, store: &mut Store, bytes: &[u8]) -> Ends {
+    let kind = m.kind;
+    match kind {
+        LOSE => line::lose(p, m.end, store, m.number as usize),
+        DAMAGE => line::damage(p, m.end, store, m.number as usize, bytes),
+        _ => timely(p, m),
+    }
+}
+
+// Whether a call is made: none is where no frame is there to be carried.
+fn is_call(p: Ends, m: Move) -> bool {
+    let e = end_of(p, m.end);
+    let kind = m.kind;
+    match kind {
+        CARRY => 0 < e.queue,
+        _ => kind <= RESYNCHRONISE,
+    }
+}
+
+// The ends after a move, and what came of it. bytes: what a submit is handed, or what a damaged frame becomes; no other move reads them.
+pub fn make(p: Ends, m: Move, store: &mut Store, bytes: &[u8]) -> Moved {
+    match is_call(p, m) {
+        true => call(p, m, store, bytes),
+        false => without_event(uncalled(p, m, store, bytes)),
     }
 }

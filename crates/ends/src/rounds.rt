@@ -3,92 +3,77 @@
 use crate::CHIP;
 use crate::DESK;
 use crate::Ends;
-use crate::link_of;
-use crate::moves::Call;
+use crate::moves::CARRY;
+use crate::moves::LOOK;
 use crate::moves::Move;
+use crate::moves::OVER;
+use crate::moves::PASS;
+use crate::moves::ROUND;
+use crate::moves::at_end;
 use state::Link;
-
-// More moves than a round has: each frame that is on its way costs at most four that are carried, a queue holds at most 64, the clock
-// is moved once, and two packets and an acknowledgement can be due at each end.
-pub const MOVES: u64 = 520;
 
 // The most rounds that document 01 promises to need.
 pub const PROMISED: u64 = 24;
-
-// Whether nothing is on its way.
-pub fn is_carried(p: Ends) -> bool {
-    (p.desk.queue == 0) & (p.chip.queue == 0)
-}
 
 fn is_due(l: Link, ms: u32) -> bool {
     (state::time_left(l, ms) == 0) & (l.lost == false)
 }
 
 fn next_look(p: Ends) -> Move {
-    if is_due(link_of(p, DESK), p.clock) {
-        return Move::Call(Call::Look, DESK);
+    match is_due(p.desk.link, p.clock) {
+        true => at_end(LOOK, DESK),
+        false => match is_due(p.chip.link, p.clock) {
+            true => at_end(LOOK, CHIP),
+            false => at_end(OVER, DESK),
+        },
     }
-    if is_due(link_of(p, CHIP), p.clock) {
-        return Move::Call(Call::Look, CHIP);
-    }
-    Move::Over
-}
-
-fn sooner(a: u16, b: u16) -> u16 {
-    if a < b { a } else { b }
 }
 
 // How far off the first moment is at which a timer of either end is due; 0 where none runs.
 fn first_due(p: Ends) -> u32 {
-    let desk = state::time_left(link_of(p, DESK), p.clock);
-    let chip = state::time_left(link_of(p, CHIP), p.clock);
-    let soonest = sooner(desk, chip);
-    if soonest == state::NO_TIMER {
-        return 0;
+    let desk = state::time_left(p.desk.link, p.clock);
+    let chip = state::time_left(p.chip.link, p.clock);
+    let soonest = match desk < chip {
+        true => desk,
+        false => chip,
+    };
+    match soonest {
+        state::NO_TIMER => 0,
+        _ => soonest as u32,
     }
-    soonest as u32
 }
 
-// The next move of a round. is_carrying: every move of it so far was a carry; what a look sends is the next round's to carry.
-pub fn next(p: Ends, is_carrying: bool) -> Move {
-    if is_carrying == false {
-        return next_look(p);
-    }
-    // From the longer queue, so that the other has room for what comes of it.
-    if p.chip.queue < p.desk.queue {
-        return Move::Carry(DESK);
-    }
-    if 0 < p.chip.queue {
-        return Move::Carry(CHIP);
-    }
+// When nothing is on its way any more.
+fn next_timer(p: Ends) -> Move {
     let ms = first_due(p);
-    if 0 < ms {
-        return Move::Pass(ms);
-    }
-    next_look(p)
-}
-
-// Whether a round goes on carrying after that move.
-pub fn is_carry(m: Move) -> bool {
-    match m {
-        Move::Carry(_) => true,
-        _ => false,
+    match ms {
+        0 => next_look(p),
+        _ => Move {
+            kind: PASS,
+            end: DESK,
+            number: ms,
+        },
     }
 }
 
-// Whether a round is over with that move.
-pub fn is_over(m: Move) -> bool {
-    match m {
-        Move::Over => true,
-        _ => false,
+// From the longer queue, so that the other has room for what comes of it.
+fn next_carry(p: Ends) -> Move {
+    match p.chip.queue < p.desk.queue {
+        true => at_end(CARRY, DESK),
+        false => match p.chip.queue == 0 {
+            true => next_timer(p),
+            false => at_end(CARRY, CHIP),
+        },
     }
 }
 
-// The ends with one round more.
-pub fn begun(p: Ends) -> Ends {
-    let mut k = p;
-    k.rounds = std::num::wrapping_add_u64(p.rounds, 1);
-    k
+// The next move of a round, behind one of that kind: what a look sends is the next round's to carry. OVER where the round is.
+pub fn next(p: Ends, last: usize) -> Move {
+    match last {
+        ROUND => next_carry(p),
+        CARRY => next_carry(p),
+        _ => next_look(p),
+    }
 }
 
 // Whether a link is lost.
@@ -98,7 +83,7 @@ pub fn is_lost(p: Ends) -> bool {
 
 // Whether nothing is on its way, nothing waits, and nothing is owed.
 pub fn is_settled(p: Ends) -> bool {
-    is_carried(p)
+    ((p.desk.queue == 0) & (p.chip.queue == 0))
         & ((p.desk.link.waiting == 0) & (p.chip.link.waiting == 0))
         & ((p.desk.link.acking | p.chip.link.acking) == false)
 }

@@ -4,36 +4,37 @@
 use crate::session;
 use crate::session::CHAINING;
 use crate::session::Command;
-use crate::session::Form;
 use crate::session::ROOM;
 use crate::session::Room;
 use crate::session::Session;
 use crate::session::UNSENT;
 use crate::session::UNWRITTEN;
+use base::buffer::part;
 use chain::Joined;
 use chain::Joining;
 use chain::Piece;
 use text::field;
 use text::field::BYTES;
 use text::field::FLAG;
+use text::field::Form;
 use text::field::U16;
 use text::field::U32;
 use text::field::Values;
-use text::field::as_u16;
-use text::field::as_u32;
+use text::field::flag_at;
+use text::field::number_at;
+use text::field::u16_at;
+use text::field::u32_at;
 use text::lay;
 use text::lay::from_flag;
-use text::lay::from_u8;
-use text::lay::from_u16;
 use text::least;
-ghost use Prim.Native.Nat.{_≤_};
-ghost use lib.ListN.{length};
 
 // ---- words and fields
 
 const WORDS: [u8; 21] = *b"join cut room joining";
 
-// Their places in the list.
+// How many they are, and their places in the list.
+pub const COUNT: usize = 4;
+
 const JOIN: usize = 0;
 
 const CUT: usize = 1;
@@ -45,7 +46,8 @@ const SET_JOINING: usize = 3;
 // The longest packet buffer of cut.
 const PACKET: usize = 1024;
 
-const FIELDS: [u64; 9] = [
+// The fields of every command.
+pub const FIELDS: [u64; 9] = [
     U16, // join LIMIT BYTES
     BYTES,
     U16, // cut LIMIT FROM SIZE BYTES
@@ -59,21 +61,23 @@ const FIELDS: [u64; 9] = [
 
 fn form_of(word: usize) -> Form {
     match word {
-        JOIN => session::fields(0, 2, 2),
-        CUT => session::fields(2, 6, 4),
-        SET_ROOM => session::fields(6, 7, 1),
-        SET_JOINING => session::fields(7, 9, 2),
+        JOIN => field::fields_from(0, 2, 2),
+        CUT => field::fields_from(2, 6, 4),
+        SET_ROOM => field::fields_from(6, 7, 1),
+        SET_JOINING => field::fields_from(7, 9, 2),
         _ => session::no_form(),
     }
 }
 
-// The line as one of these commands, if it is one.
-pub fn read(line: &[u8], at: usize, bytes: &mut [u8]) -> Command
-    requires { ⌜ at ≤ length (now line) ⌝ }
-{
-    let word = field::place_of(&line[0..at], &WORDS);
-    let c = session::unread(CHAINING, word, word <= CUT);
-    session::read(line, at, &FIELDS, form_of(word), bytes, c)
+// What the word asks for, if it is one of these.
+pub fn command(text: &[u8]) -> Command {
+    let word = field::place_of(text, &WORDS);
+    Command {
+        form: form_of(word),
+        owner: CHAINING,
+        word,
+        is_call: word <= CUT,
+    }
 }
 
 // ---- room, joining
@@ -81,7 +85,7 @@ pub fn read(line: &[u8], at: usize, bytes: &mut [u8]) -> Command
 fn set_room(v: Values, room: &mut Room, s: Session) -> Session {
     *room = [UNWRITTEN; ROOM];
     let mut k = s;
-    k.room = v[0] as usize;
+    k.room = number_at(v, 0) as usize;
     k
 }
 
@@ -93,8 +97,8 @@ fn with_joining(s: Session, joining: Joining) -> Session {
 
 fn joining_of(v: Values) -> Joining {
     Joining {
-        length: as_u16(v[1]),
-        opened: v[0] == 1,
+        length: u16_at(v, 1),
+        opened: flag_at(v, 0),
     }
 }
 
@@ -104,23 +108,22 @@ fn joining_of(v: Values) -> Joining {
 fn print_join(j: Joined, room: &[u8], is_worked: bool) {
     let state = j.state;
     let numbers = [
-        from_u8(j.answer),
-        from_u16(j.length),
-        from_u8(j.fault),
+        j.answer as u64,
+        j.length as u64,
+        j.fault as u64,
         from_flag(state.opened),
-        from_u16(state.length),
+        state.length as u64,
     ];
-    if is_worked {
-        lay::say(b"% % % % %", &numbers);
-    } else {
-        session::say_bytes(b"% % % % %", &numbers, room);
+    match is_worked {
+        true => lay::say(b"% % % % %", &numbers),
+        false => lay::say_bytes(b"% % % % %", &numbers, room),
     }
 }
 
 fn join(v: Values, bytes: &[u8], room: &mut [u8], s: Session) -> Session {
     let size = least(s.room, room.len());
-    let j = chain::join(as_u16(v[0]), s.joining, bytes, &mut room[0..size]);
-    print_join(j, &room[0..size], s.is_worked);
+    let j = chain::join(u16_at(v, 0), s.joining, bytes, &mut room[0..size]);
+    print_join(j, part(room, 0, size), s.is_worked);
     with_joining(s, j.state)
 }
 
@@ -128,24 +131,24 @@ fn join(v: Values, bytes: &[u8], room: &mut [u8], s: Session) -> Session {
 
 // Of a worked line the packet is told, else the whole buffer.
 fn print_cut(p: Piece, packet: &[u8], size: usize, is_worked: bool) {
-    let numbers = [from_u8(p.answer), from_u16(p.length), from_u16(p.count)];
-    let told = if is_worked { p.length as usize } else { size };
-    let end = least(told, packet.len());
-    session::say_bytes(b"% % %", &numbers, &packet[0..end]);
+    let numbers = [p.answer as u64, p.length as u64, p.count as u64];
+    let told = match is_worked {
+        true => p.length as usize,
+        false => size,
+    };
+    lay::say_bytes(b"% % %", &numbers, part(packet, 0, told));
 }
 
 fn cut(v: Values, bytes: &[u8], packet: &mut [u8], is_worked: bool) {
-    let size = least(v[2] as usize, packet.len());
-    let p = chain::cut(as_u16(v[0]), bytes, as_u32(v[1]), &mut packet[0..size]);
+    let size = least(number_at(v, 2) as usize, packet.len());
+    let p = chain::cut(u16_at(v, 0), bytes, u32_at(v, 1), &mut packet[0..size]);
     print_cut(p, packet, size, is_worked);
 }
 
 // ---- every command
 
 // Does what the command says.
-pub fn act(c: Command, bytes: &[u8], room: &mut Room, s: Session) -> Session {
-    let v = c.values;
-    let word = c.word;
+pub fn act(word: usize, v: Values, bytes: &[u8], room: &mut Room, s: Session) -> Session {
     match word {
         JOIN => return join(v, bytes, room, s),
         CUT => cut(v, bytes, &mut [UNSENT; PACKET], s.is_worked),

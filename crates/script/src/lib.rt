@@ -4,107 +4,116 @@ mod frames;
 mod linking;
 mod session;
 
+use base::buffer::part;
 use session::BAD;
 use session::BUFFER;
 use session::CHAINING;
 use session::Command;
 use session::FRAMES;
 use session::LINKING;
+use session::NO_LINE;
 use session::ROOM;
 use session::Room;
 use session::SILENT;
 use session::Session;
 use session::Slots;
 use text::field;
+use text::field::Fields;
 use text::field::MOST_BYTES;
 use text::input::INPUT;
 use text::input::Input;
 use text::lay;
-use text::least;
 use text::lines;
 use text::lines::Reader;
-ghost use Prim.Native.Nat.{_≤_};
-ghost use lib.ListN.{length};
 
 // ---- what a line asks for
 
-// A line that one file's commands do not take is offered to the next.
-fn command(line: &[u8], is_worked: bool, bytes: &mut [u8]) -> Command {
-    let at = field::word_end(line);
-    let c = linking::read(line, at, bytes);
-    if c.owner != BAD {
+// A word that one file's commands do not have is offered to the next.
+fn named(word: &[u8], is_worked: bool) -> Command {
+    let c = linking::command(word);
+    if c.word < linking::COUNT {
         return c;
     }
-    let c = chaining::read(line, at, bytes);
-    if (c.owner != BAD) | !is_worked {
+    let c = chaining::command(word);
+    if (c.word < chaining::COUNT) | !is_worked {
         return c;
     }
-    frames::read(line, at, bytes)
+    frames::command(word)
 }
 
-fn read(line: &[u8], is_long: bool, is_worked: bool, bytes: &mut [u8]) -> Command {
-    if is_long {
-        return session::no_command(BAD);
+fn command(line: &[u8], r: Reader, is_worked: bool) -> Command {
+    match lines::kind(line, r) {
+        lines::LINE => named(part(line, 0, field::word_end(line)), is_worked),
+        lines::SILENT => session::no_command(SILENT),
+        lines::LONG => session::no_command(BAD),
+        _ => session::no_command(NO_LINE),
     }
-    if lines::is_silent(line) {
-        return session::no_command(SILENT);
+}
+
+fn read(line: &[u8], c: Command, bytes: &mut [u8]) -> Fields {
+    let at = field::word_end(line);
+    let form = c.form;
+    let owner = c.owner;
+    match owner {
+        LINKING => field::read_form(line, at, &linking::FIELDS, form, bytes),
+        CHAINING => field::read_form(line, at, &chaining::FIELDS, form, bytes),
+        FRAMES => field::read_form(line, at, &frames::FIELDS, form, bytes),
+        _ => session::no_fields(owner != BAD),
     }
-    command(line, is_worked, bytes)
 }
 
 // ---- what it prints whatever it does
 
 fn echo(line: &[u8], is_call: bool) {
     lay::write(line);
-    if is_call {
-        lay::write(b" -> ");
-    } else {
-        lay::write(b"\n");
+    match is_call {
+        true => lay::write(b" -> "),
+        false => lay::write(b"\n"),
     }
 }
 
 // What stands before a call's answer, and all that a line prints that is no call.
-fn begin(line: &[u8], number: u64, c: Command, is_worked: bool) {
-    if c.owner == BAD {
-        lay::say(b"bad line %", &[number]);
-        return;
-    }
-    if is_worked {
-        echo(line, c.is_call);
+fn begin(line: &[u8], number: u64, c: Command, good: bool, is_worked: bool) {
+    match good {
+        true => match is_worked & (c.owner != NO_LINE) {
+            true => echo(line, c.is_call),
+            false => {}
+        },
+        false => lay::say(b"bad line %", &[number]),
     }
 }
 
 // ---- what it does
 
-fn act(c: Command, bytes: &[u8], slots: &mut Slots, room: &mut Room, s: Session) -> Session {
-    let owner = c.owner;
+fn act(
+    c: Command,
+    f: Fields,
+    bytes: &[u8],
+    slots: &mut Slots,
+    room: &mut Room,
+    s: Session,
+) -> Session {
+    let v = f.values;
+    let owner = if f.good { c.owner } else { BAD };
     match owner {
-        LINKING => linking::act(c, bytes, slots, s),
-        CHAINING => chaining::act(c, bytes, room, s),
-        FRAMES => frames::act(c, bytes, s),
-        _ => s,
+        LINKING => return linking::act(c.word, v, bytes, slots, s),
+        CHAINING => return chaining::act(c.word, v, bytes, room, s),
+        FRAMES => frames::act(c.word, v, bytes),
+        _ => {}
     }
-}
-
-fn obey(line: &[u8], r: Reader, slots: &mut Slots, room: &mut Room, s: Session) -> Session {
-    let mut bytes = [0u8; MOST_BYTES];
-    let c = read(line, r.is_long, s.is_worked, &mut bytes);
-    begin(line, r.number, c, s.is_worked);
-    let count = least(c.count, MOST_BYTES);
-    act(c, &bytes[0..count], slots, room, s)
+    s
 }
 
 // ---- all lines
 
-fn end_line(input: &[u8], r: Reader, slots: &mut Slots, room: &mut Room, s: Session) -> Session
-    requires { ⌜ (r .start ≤ r .end) × (r .end ≤ length (now input)) ⌝ }
-{
-    if r.is_given {
-        let start = r.start;
-        let end = r.end;
-        return obey(&input[start..end], r, slots, room, s);
-    }
-    s
+fn obey(input: &[u8], r: Reader, slots: &mut Slots, room: &mut Room, s: Session) -> Session {
+    let mut bytes = [0u8; MOST_BYTES];
+    let length = std::num::wrapping_sub_usize(r.end, r.start);
+    let line = part(input, r.start, length);
+    let c = command(line, r, s.is_worked);
+    let f = read(line, c, &mut bytes);
+    begin(line, r.number, c, f.good, s.is_worked);
+    act(c, f, part(&bytes, 0, f.count), slots, room, s)
 }
 
 fn all_lines(input: &mut Input, slots: &mut Slots, room: &mut Room, s: Session) {
@@ -113,7 +122,7 @@ fn all_lines(input: &mut Input, slots: &mut Slots, room: &mut Room, s: Session) 
     let mut turns = lines::TURNS;
     while 0 < turns {
         r = lines::next(input, r);
-        k = end_line(input, r, slots, room, k);
+        k = obey(input, r, slots, room, k);
         turns = lines::turns_left(r, turns);
     }
 }

@@ -1,16 +1,16 @@
 // The commands on one end of the link: their words, their fields, what they do and what they print.
 // A later input goes last among its command's fields, and the number that are needed stays: absent means 0. A later output goes last
-// in print_all, behind the frame.
+// in print, behind the frame.
 use crate::session;
 use crate::session::BUFFER;
 use crate::session::Command;
-use crate::session::Form;
-use crate::session::LINE;
 use crate::session::LINKING;
 use crate::session::Session;
 use crate::session::Slots;
 use crate::session::UNSENT;
 use crate::session::UNWRITTEN;
+use base::buffer::part;
+use clock::Looked;
 use frame::Format;
 use state::Link;
 use state::Outcome;
@@ -18,27 +18,30 @@ use state::Settings;
 use text::field;
 use text::field::BYTES;
 use text::field::FLAG;
+use text::field::Form;
 use text::field::U8;
 use text::field::U16;
 use text::field::U32;
 use text::field::Values;
-use text::field::as_u8;
-use text::field::as_u16;
-use text::field::as_u32;
+use text::field::flag_at;
+use text::field::number_at;
+use text::field::u8_at;
+use text::field::u16_at;
+use text::field::u32_at;
 use text::lay;
 use text::lay::from_flag;
 use text::lay::from_u8;
 use text::lay::from_u16;
 use text::lay::from_u32;
 use text::least;
-ghost use Prim.Native.Nat.{_≤_};
-ghost use lib.ListN.{length};
 
 // ---- words
 
 const WORDS: [u8; 59] = *b"start submit take look acknowledge resynchronise lend state";
 
-// Their places in the list.
+// How many they are, and their places in the list.
+pub const COUNT: usize = 8;
+
 const START: usize = 0;
 
 const SUBMIT: usize = 1;
@@ -59,31 +62,32 @@ const STATE: usize = 7;
 
 fn settings_of(v: Values) -> Settings {
     Settings {
-        format: Format { d: as_u16(v[0]) },
-        transtimeout: as_u16(v[2]),
-        acktimeout: as_u16(v[3]),
-        window: as_u8(v[1]),
-        repeats: as_u8(v[4]),
+        format: Format { d: u16_at(v, 0) },
+        transtimeout: u16_at(v, 2),
+        acktimeout: u16_at(v, 3),
+        window: u8_at(v, 1),
+        repeats: u8_at(v, 4),
     }
 }
 
 fn link_of(v: Values) -> Link {
     Link {
         settings: settings_of(v),
-        starts: [as_u32(v[10]), as_u32(v[11])],
-        ackstart: as_u32(v[15]),
-        lengths: [as_u16(v[8]), as_u16(v[9])],
-        repeated: [as_u8(v[12]), as_u8(v[13])],
-        next: as_u8(v[5]),
-        expected: as_u8(v[6]),
-        waiting: as_u8(v[7]),
-        acking: v[14] == 1,
-        nakmark: v[16] == 1,
-        lost: v[17] == 1,
+        starts: [u32_at(v, 10), u32_at(v, 11)],
+        ackstart: u32_at(v, 15),
+        lengths: [u16_at(v, 8), u16_at(v, 9)],
+        repeated: [u8_at(v, 12), u8_at(v, 13)],
+        next: u8_at(v, 5),
+        expected: u8_at(v, 6),
+        waiting: u8_at(v, 7),
+        acking: flag_at(v, 14),
+        nakmark: flag_at(v, 16),
+        lost: flag_at(v, 17),
     }
 }
 
-const FIELDS: [u64; 27] = [
+// The fields of every command.
+pub const FIELDS: [u64; 27] = [
     // start D WIN TRANS ACK REP
     U16,
     U8,
@@ -122,22 +126,27 @@ const FIELDS: [u64; 27] = [
 
 fn form_of(word: usize) -> Form {
     match word {
-        START => session::fields(0, 5, 5),
-        SUBMIT | TAKE => session::fields(5, 7, 2),
-        LOOK | ACKNOWLEDGE | RESYNCHRONISE => session::fields(5, 6, 1),
-        LEND => session::fields(7, 9, 2),
-        STATE => session::fields(9, 27, 18),
+        START => field::fields_from(0, 5, 5),
+        SUBMIT => field::fields_from(5, 7, 2),
+        TAKE => field::fields_from(5, 7, 2),
+        LOOK => field::fields_from(5, 6, 1),
+        ACKNOWLEDGE => field::fields_from(5, 6, 1),
+        RESYNCHRONISE => field::fields_from(5, 6, 1),
+        LEND => field::fields_from(7, 9, 2),
+        STATE => field::fields_from(9, 27, 18),
         _ => session::no_form(),
     }
 }
 
-// The line as one of these commands, if it is one.
-pub fn read(line: &[u8], at: usize, bytes: &mut [u8]) -> Command
-    requires { ⌜ at ≤ length (now line) ⌝ }
-{
-    let word = field::place_of(&line[0..at], &WORDS);
-    let c = session::unread(LINKING, word, word < LEND);
-    session::read(line, at, &FIELDS, form_of(word), bytes, c)
+// What the word asks for, if it is one of these.
+pub fn command(text: &[u8]) -> Command {
+    let word = field::place_of(text, &WORDS);
+    Command {
+        form: form_of(word),
+        owner: LINKING,
+        word,
+        is_call: word < LEND,
+    }
 }
 
 // ---- what is lent, and any state
@@ -145,8 +154,8 @@ pub fn read(line: &[u8], at: usize, bytes: &mut [u8]) -> Command
 fn lend(v: Values, slots: &mut Slots, s: Session) -> Session {
     *slots = [UNWRITTEN; BUFFER];
     let mut k = s;
-    k.slots = v[0] as usize;
-    k.frame = v[1] as usize;
+    k.slots = number_at(v, 0) as usize;
+    k.frame = number_at(v, 1) as usize;
     k
 }
 
@@ -158,15 +167,14 @@ fn with_link(s: Session, link: Link) -> Session {
 
 // ---- calls
 
-fn look(l: Link, slots: &[u8], frame: &mut [u8], ms: u32) -> Outcome {
-    let looked = link::look(l, slots, frame, ms);
+fn outcome(looked: Looked) -> Outcome {
     looked.outcome
 }
 
 // The calls that are given a time only.
 fn timed(word: usize, l: Link, slots: &[u8], frame: &mut [u8], ms: u32) -> Outcome {
     match word {
-        LOOK => look(l, slots, frame, ms),
+        LOOK => outcome(link::look(l, slots, frame, ms)),
         ACKNOWLEDGE => link::acknowledge(l, slots, frame, ms),
         _ => link::resynchronise(l, slots, frame, ms),
     }
@@ -175,7 +183,7 @@ fn timed(word: usize, l: Link, slots: &[u8], frame: &mut [u8], ms: u32) -> Outco
 // The calls that leave the slots as they are.
 fn reading(
     word: usize,
-    settings: Settings,
+    v: Values,
     l: Link,
     slots: &[u8],
     frame: &mut [u8],
@@ -183,20 +191,39 @@ fn reading(
     bytes: &[u8],
 ) -> Outcome {
     match word {
-        START => link::start(settings, slots),
+        START => link::start(settings_of(v), slots),
         TAKE => link::take(l, slots, frame, ms, bytes),
         _ => timed(word, l, slots, frame, ms),
     }
 }
 
 // A call looks at its own fields only: settings, or a time and bytes.
-fn outcome_of(c: Command, l: Link, slots: &mut [u8], frame: &mut [u8], bytes: &[u8]) -> Outcome {
-    let v = c.values;
-    let ms = as_u32(v[0]);
-    if c.word == SUBMIT {
-        return link::submit(l, slots, frame, ms, bytes);
+fn outcome_of(
+    word: usize,
+    v: Values,
+    l: Link,
+    slots: &mut [u8],
+    frame: &mut [u8],
+    bytes: &[u8],
+) -> Outcome {
+    match word {
+        SUBMIT => link::submit(l, slots, frame, u32_at(v, 0), bytes),
+        _ => reading(word, v, l, slots, frame, u32_at(v, 0), bytes),
     }
-    reading(c.word, settings_of(v), l, slots, frame, ms, bytes)
+}
+
+// The buffers are as long as they are lent.
+fn called(
+    word: usize,
+    v: Values,
+    slots: &mut [u8],
+    frame: &mut [u8],
+    bytes: &[u8],
+    s: Session,
+) -> Outcome {
+    let a = least(s.slots, slots.len());
+    let b = least(s.frame, frame.len());
+    outcome_of(word, v, s.link, &mut slots[0..a], &mut frame[0..b], bytes)
 }
 
 // ---- what a call prints
@@ -230,74 +257,51 @@ fn numbers_of(o: Outcome) -> [u64; 22] {
     ]
 }
 
-fn print_line(
-    head: &[u8],
-    numbers: &[u64],
-    first: &[u8],
-    second: &[u8],
-    tail: &[u8],
-    dropped: u64,
-) {
-    let mut out = [0u8; LINE];
-    let mut at = lay::add_filled(&mut out, 0, head, numbers);
-    at = lay::add_hex(&mut out, at, first);
-    at = lay::add_hex(&mut out, at, second);
-    at = lay::add_filled(&mut out, at, tail, &[dropped]);
-    lay::write_out(&out, at);
-}
-
+// All that a call leaves.
 fn print_all(o: Outcome, slots: &[u8], frame: &[u8]) {
     let head = b"% % % % % % % % % % % % % % % % % % % % % %";
-    print_line(head, &numbers_of(o), slots, frame, b"\n", 0);
+    lay::say_both(head, &numbers_of(o), slots, frame, b"", 0);
 }
 
 // The delivered packet is the received frame's bytes from byte 3 on.
 fn print_worked(o: Outcome, bytes: &[u8], frame: &[u8]) {
-    let sent = least(o.sent as usize, frame.len());
-    let start = least(3, bytes.len());
-    let end = start + least(o.delivered as usize, bytes.len() - start);
-    print_line(
+    lay::say_both(
         b"%",
-        &[from_u8(o.answer)],
-        &frame[0..sent],
-        &bytes[start..end],
-        b" %\n",
-        from_u8(o.dropped),
+        &[o.answer as u64],
+        part(frame, 0, o.sent as usize),
+        part(bytes, 3, o.delivered as usize),
+        b" %",
+        o.dropped as u64,
     );
 }
 
 fn print(o: Outcome, bytes: &[u8], slots: &[u8], frame: &[u8], is_worked: bool) {
-    if is_worked {
-        print_worked(o, bytes, frame);
-    } else {
-        print_all(o, slots, frame);
+    match is_worked {
+        true => print_worked(o, bytes, frame),
+        false => print_all(o, slots, frame),
     }
 }
 
 // ---- every command
 
-fn answered(c: Command, slots: &mut [u8], frame: &mut [u8], bytes: &[u8], s: Session) -> Session {
-    let o = outcome_of(c, s.link, slots, frame, bytes);
-    print(o, bytes, slots, frame, s.is_worked);
+fn call(word: usize, v: Values, bytes: &[u8], slots: &mut Slots, s: Session) -> Session {
+    let mut frame = [UNSENT; BUFFER];
+    let o = called(word, v, slots, &mut frame, bytes, s);
+    print(
+        o,
+        bytes,
+        part(slots, 0, s.slots),
+        part(&frame, 0, s.frame),
+        s.is_worked,
+    );
     with_link(s, o.state)
 }
 
-// The buffers are as long as they are lent.
-fn call(c: Command, bytes: &[u8], slots: &mut [u8], s: Session) -> Session {
-    let mut frame = [UNSENT; BUFFER];
-    let a = least(s.slots, slots.len());
-    let b = least(s.frame, BUFFER);
-    answered(c, &mut slots[0..a], &mut frame[0..b], bytes, s)
-}
-
 // Does what the command says.
-pub fn act(c: Command, bytes: &[u8], slots: &mut Slots, s: Session) -> Session {
-    let v = c.values;
-    if c.word == LEND {
-        return lend(v, slots, s);
+pub fn act(word: usize, v: Values, bytes: &[u8], slots: &mut Slots, s: Session) -> Session {
+    match word {
+        LEND => lend(v, slots, s),
+        STATE => with_link(s, link_of(v)),
+        _ => call(word, v, bytes, slots, s),
     }
-    if c.word == STATE {
-        return with_link(s, link_of(v));
-    }
-    call(c, bytes, slots, s)
 }

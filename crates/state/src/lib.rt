@@ -303,7 +303,8 @@ pub fn time_left(l: Link, ms: u32) -> u16
 
 // ---- start and resynchronise
 
-fn zero_state() -> Link
+// The state of zeros, to which every call answers 1.
+pub fn zero_state() -> Link
     ensures { λ r. ⌜ r ≡ zeros ⌝ }
 {
     fresh(Settings {

@@ -1,4 +1,6 @@
 // A line's fields: numbers in decimal digits, and bytes in hexadecimal ones.
+use crate::least;
+use base::buffer::copy_at;
 ghost use Prim.Native.Nat.{_≤_, _<_};
 ghost use lib.ListN.{length};
 
@@ -10,10 +12,11 @@ pub type Bytes = [u8; MOST_BYTES];
 // The most fields that a line has.
 pub const FIELDS: usize = 18;
 
-// A field's number; of a byte field how many bytes; 0 of a field that is absent.
+// A field's number; 0 of bytes and of a text, and of a field that is absent.
 pub type Values = [u64; FIELDS];
 
-// A field's largest number; BYTES where the field is bytes.
+// A field's largest number; BYTES where the field is bytes, TEXT where it is the rest of the line as it stands, END where it is the name
+// of an end, `desk` or `chip`, whose number is 0 or 1.
 pub const FLAG: u64 = 1;
 
 pub const U8: u64 = 255;
@@ -24,23 +27,41 @@ pub const U32: u64 = 4294967295;
 
 pub const BYTES: u64 = u64::MAX;
 
+pub const TEXT: u64 = u64::MAX - 1;
+
+pub const END: u64 = u64::MAX - 2;
+
 pub const SPACE: u8 = 32;
 
 const DASH: u8 = 45;
 
 const NO_BYTE: u16 = 256;
 
-// The number, or how many bytes; and the index past the field.
-pub struct Field {
-    pub value: u64,
-    pub end: usize,
+// end: the index past the field. count: how many bytes it has, if it is bytes or a text.
+struct Field {
+    value: u64,
+    end: usize,
+    count: usize,
+    good: bool,
+}
+
+// count: how many bytes its bytes or its text are. good: the line has the fields of its command and nothing else.
+pub struct Fields {
+    pub values: Values,
+    pub count: usize,
     pub good: bool,
 }
 
-// good: the line has the fields of its command and nothing else.
-pub struct Fields {
-    pub values: Values,
-    pub good: bool,
+// Where a command's fields stand in a table of largest numbers, and how many of them a line cannot do without.
+pub struct Form {
+    pub start: usize,
+    pub end: usize,
+    pub needed: usize,
+}
+
+// The fields from index `start` of the table up to `end`.
+pub fn fields_from(start: usize, end: usize, needed: usize) -> Form {
+    Form { start, end, needed }
 }
 
 // ---- numbers
@@ -82,6 +103,7 @@ fn number(line: &[u8], from: usize, largest: u64) -> Field {
     Field {
         value,
         end: i,
+        count: 0,
         good: (from < i) & (value <= largest),
     }
 }
@@ -151,8 +173,9 @@ fn digit_pairs(line: &[u8], from: usize, bytes: &mut [u8]) -> Field {
         i += 2;
     }
     Field {
-        value: n as u64,
+        value: 0,
         end: i,
+        count: n,
         good: 0 < n,
     }
 }
@@ -173,19 +196,54 @@ fn some_bytes(line: &[u8], from: usize, bytes: &mut [u8]) -> Field {
         return Field {
             value: 0,
             end,
+            count: 0,
             good: true,
         };
     }
     digit_pairs(line, from, bytes)
 }
 
+// Of a text longer than what is lent the beginning.
+fn some_text(line: &[u8], from: usize, bytes: &mut [u8]) -> Field
+    requires { ⌜ from ≤ length (now line) ⌝ }
+{
+    let count = least(line.len() - from, bytes.len());
+    let end = from + count;
+    copy_at(bytes, 0, &line[from..end]);
+    Field {
+        value: 0,
+        end: line.len(),
+        count,
+        good: true,
+    }
+}
+
+// ---- an end
+
+fn end_name(line: &[u8], from: usize) -> Field
+    requires { ⌜ from ≤ length (now line) ⌝ }
+{
+    let end = bytes::scan::find(line, from, line.len(), SPACE);
+    let place = place_of(&line[from..end], b"desk chip");
+    Field {
+        value: place as u64,
+        end,
+        count: 0,
+        good: place < 2,
+    }
+}
+
 // ---- all fields of a line
 
-fn read(line: &[u8], from: usize, largest: u64, bytes: &mut [u8]) -> Field {
-    if largest == BYTES {
-        return some_bytes(line, from, bytes);
+fn read(line: &[u8], from: usize, largest: u64, bytes: &mut [u8]) -> Field
+    requires { ⌜ from ≤ length (now line) ⌝ }
+{
+    match largest {
+        BYTES => some_bytes(line, from, bytes),
+        TEXT => some_text(line, from, bytes),
+        END => end_name(line, from),
+        _ => number(line, from, largest),
     }
-    number(line, from, largest)
 }
 
 // Field n behind the space at `at`; no field is good where there is no space, or where the line has a field too many.
@@ -200,27 +258,38 @@ fn read_nth(line: &[u8], at: usize, largest: &[u64], n: usize, bytes: &mut [u8])
     Field {
         value: 0,
         end: at,
+        count: 0,
         good: false,
     }
 }
 
-// The fields from `at` to the line's end, each up to its largest number; of a byte field at most as many bytes as are lent. There may be fewer, but not under `least`.
-pub fn read_all(line: &[u8], at: usize, largest: &[u64], least: usize, bytes: &mut [u8]) -> Fields {
+fn read_all(line: &[u8], at: usize, largest: &[u64], needed: usize, bytes: &mut [u8]) -> Fields {
     let mut values = [0u64; FIELDS];
     let mut next = at;
+    let mut count: usize = 0;
     let mut good = true;
     let mut n: usize = 0;
     while n < FIELDS && good && next < line.len() {
         let f = read_nth(line, next, largest, n, bytes);
         values[n] = f.value;
         next = f.end;
+        count = std::num::wrapping_add_usize(count, f.count);
         good = f.good;
         n += 1;
     }
     Fields {
         values,
-        good: good & (least <= n) & (next == line.len()),
+        count,
+        good: good & (needed <= n) & (next == line.len()),
     }
+}
+
+// The fields from `at` to the line's end, each up to its largest number. Bytes or a text, of which a form has one at most, are laid in
+// `bytes`; more bytes than fit there are no field.
+pub fn read_form(line: &[u8], at: usize, table: &[u64], form: Form, bytes: &mut [u8]) -> Fields {
+    let end = least(form.end, table.len());
+    let start = least(form.start, end);
+    read_all(line, at, &table[start..end], form.needed, bytes)
 }
 
 // ---- words
@@ -248,6 +317,34 @@ pub fn place_of(word: &[u8], words: &[u8]) -> usize {
 }
 
 // ---- numbers as wide as the link's
+
+// Number n of the fields. A call takes less proof than an index.
+pub fn number_at(v: Values, n: usize) -> u64 {
+    if n < FIELDS {
+        return v[n];
+    }
+    0
+}
+
+// Number n, of a field whose largest is U8.
+pub fn u8_at(v: Values, n: usize) -> u8 {
+    as_u8(number_at(v, n))
+}
+
+// Number n, of a field whose largest is U16.
+pub fn u16_at(v: Values, n: usize) -> u16 {
+    as_u16(number_at(v, n))
+}
+
+// Number n, of a field whose largest is U32.
+pub fn u32_at(v: Values, n: usize) -> u32 {
+    as_u32(number_at(v, n))
+}
+
+// Number n, of a field whose largest is FLAG.
+pub fn flag_at(v: Values, n: usize) -> bool {
+    number_at(v, n) == 1
+}
 
 // The number of a field whose largest is U8.
 pub fn as_u8(value: u64) -> u8 {

@@ -1,18 +1,19 @@
 // The name of a frame, as an end hears it.
 use crate::lay;
-use crate::lay::add_chosen;
 use frame::Heard;
 
 // A place in the list of names, and the numbers that stand in the name.
 struct Name {
     place: usize,
-    numbers: [u64; 2],
+    first: u8,
+    second: u8,
 }
 
 fn named(place: usize, first: u8, second: u8) -> Name {
     Name {
         place,
-        numbers: [first as u64, second as u64],
+        first,
+        second,
     }
 }
 
@@ -39,22 +40,14 @@ fn name_of(h: Heard) -> Name {
     }
 }
 
-// Lays what was heard: `data 0 ack 3`, `ack 0`, `nak 0`, `reset`, or which of steps 1 to 4 refuses.
-pub fn add_heard(out: &mut [u8], at: usize, h: Heard) -> usize {
+// Writes what was heard: `data 0 ack 3`, `ack 0`, `nak 0`, `reset`, or which of steps 1 to 4 refuses.
+pub fn write_heard(h: Heard) {
     let n = name_of(h);
-    let numbers = n.numbers;
-    add_chosen(
-        out,
-        at,
+    lay::write_chosen(
         b"size|checksum|code|control|length|reset|ack %|nak %|data % ack %|data % nak %",
         n.place,
-        &numbers,
-    )
-}
-
-// Writes what was heard.
-pub fn write_heard(h: Heard) {
-    let mut out = [0u8; 32];
-    let at = add_heard(&mut out, 0, h);
-    lay::write_out(&out, at);
+        n.first as u64,
+        n.second as u64,
+        0,
+    );
 }

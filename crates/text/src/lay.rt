@@ -14,8 +14,10 @@ const BAR: u8 = 124;
 // Stands for a byte that is no printable character.
 const DOT: u8 = 46;
 
-// Longer than most lines, so that these are written at once.
+// Longer than most lines, and than most lines with bytes, so that these are written at once.
 const LINE: usize = 512;
+
+const LONG_LINE: usize = 8192;
 
 // ---- text
 
@@ -75,7 +77,7 @@ fn add_part(out: &mut [u8], at: usize, template: &[u8], i: usize, end: usize, nu
 }
 
 // Lays the template, each `%` of it as the next number in decimal digits.
-pub fn add_filled(out: &mut [u8], at: usize, template: &[u8], numbers: &[u64]) -> usize {
+fn add_filled(out: &mut [u8], at: usize, template: &[u8], numbers: &[u64]) -> usize {
     let mut next = at;
     let mut n: usize = 0;
     let mut i: usize = 0;
@@ -103,10 +105,17 @@ fn start_of(texts: &[u8], n: usize) -> usize
 }
 
 // Lays template n, from 0 on, of the templates apart by `|`. To choose a number and lay once takes less proof than a call for each.
-pub fn add_chosen(out: &mut [u8], at: usize, templates: &[u8], n: usize, numbers: &[u64]) -> usize {
+fn add_chosen(out: &mut [u8], at: usize, templates: &[u8], n: usize, numbers: &[u64]) -> usize {
     let start = start_of(templates, n);
     let end = bytes::scan::find(templates, start, templates.len(), BAR);
     add_filled(out, at, &templates[start..end], numbers)
+}
+
+// Writes template n of the templates apart by `|`, the numbers in place of its `%`.
+pub fn write_chosen(templates: &[u8], n: usize, a: u64, b: u64, c: u64) {
+    let mut out = [0u8; LINE];
+    let at = add_chosen(&mut out, 0, templates, n, &[a, b, c]);
+    write_out(&out, at);
 }
 
 // ---- bytes
@@ -166,8 +175,7 @@ fn printable(byte: u8) -> u8 {
     byte
 }
 
-// Lays bytes as characters, and a dot for each that is none.
-pub fn add_printable(out: &mut [u8], at: usize, bytes: &[u8]) -> usize {
+fn add_printable(out: &mut [u8], at: usize, bytes: &[u8]) -> usize {
     let mut next = at;
     let mut i: usize = 0;
     while i < bytes.len() {
@@ -177,10 +185,17 @@ pub fn add_printable(out: &mut [u8], at: usize, bytes: &[u8]) -> usize {
     next
 }
 
+// Writes bytes as characters, and a dot for each that is none.
+pub fn write_printable(bytes: &[u8]) {
+    let mut out = [0u8; LINE];
+    let at = add_printable(&mut out, 0, bytes);
+    write_out(&out, at);
+}
+
 // ---- lines
 
 // Ends the line and writes it.
-pub fn end_line(out: &mut [u8], at: usize) {
+fn end_line(out: &mut [u8], at: usize) {
     let end = add(out, at, b"\n");
     write_out(out, end);
 }
@@ -194,6 +209,31 @@ pub fn write(text: &[u8]) {
 pub fn say(template: &[u8], numbers: &[u64]) {
     let mut line = [0u8; LINE];
     let at = add_filled(&mut line, 0, template, numbers);
+    end_line(&mut line, at);
+}
+
+// Writes a line: the template with its numbers, and bytes in hexadecimal digits.
+pub fn say_bytes(template: &[u8], numbers: &[u64], bytes: &[u8]) {
+    let mut line = [0u8; LONG_LINE];
+    let mut at = add_filled(&mut line, 0, template, numbers);
+    at = add_hex(&mut line, at, bytes);
+    end_line(&mut line, at);
+}
+
+// Writes a line: the head with its numbers, bytes twice, and the tail with its number.
+pub fn say_both(
+    head: &[u8],
+    numbers: &[u64],
+    first: &[u8],
+    second: &[u8],
+    tail: &[u8],
+    number: u64,
+) {
+    let mut line = [0u8; LONG_LINE];
+    let mut at = add_filled(&mut line, 0, head, numbers);
+    at = add_hex(&mut line, at, first);
+    at = add_hex(&mut line, at, second);
+    at = add_filled(&mut line, at, tail, &[number]);
     end_line(&mut line, at);
 }
 

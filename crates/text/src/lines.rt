@@ -8,7 +8,7 @@ ghost use lib.ListN.{length};
 ghost use mathlib.Core.Path.{_≡_};
 
 // A longer line is dropped as it is read.
-const LONGEST: usize = 20000;
+pub const LONGEST: usize = 20000;
 
 const LINE_FEED: u8 = 10;
 
@@ -43,12 +43,35 @@ pub fn beginning() -> Reader {
     }
 }
 
-// Whether a line asks for nothing: it is blank or a comment.
-pub fn is_silent(line: &[u8]) -> bool {
+// What a reader is at: no line, one that is too long, one that asks for nothing (it is blank or a comment), or another.
+pub const NONE: usize = 0;
+
+pub const LONG: usize = 1;
+
+pub const SILENT: usize = 2;
+
+pub const LINE: usize = 3;
+
+// Whether a line asks for nothing.
+fn is_silent(line: &[u8]) -> bool {
     if line.len() == 0 {
         return true;
     }
     line[0] == HASH
+}
+
+// Which of these it is; a comment that is too long is too long.
+pub fn kind(line: &[u8], r: Reader) -> usize {
+    if r.is_given == false {
+        return NONE;
+    }
+    if r.is_long {
+        return LONG;
+    }
+    if is_silent(line) {
+        return SILENT;
+    }
+    LINE
 }
 
 // The line of those bytes has ended.
@@ -86,7 +109,7 @@ fn read_behind(input: &mut [u8], kept: usize) -> usize
 }
 
 // Moves the bytes from `from` up to `to` to the front.
-pub fn move_to_front(input: &mut [u8], from: usize, to: usize)
+fn move_to_front(input: &mut [u8], from: usize, to: usize)
     requires { ⌜ (from ≤ to) × (to ≤ length (now input)) ⌝ }
 {
     let mut i = from;

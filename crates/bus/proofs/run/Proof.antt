@@ -5,10 +5,10 @@ use Rattle.bus.proofs.run.Statement.{statement}
 use Rattle.bus.proofs.run.Tie as tie
 
 abbrev Inv-loop : tie.InvT-loop
-Inv-loop input₀ store₀ book₀ s₀ reader₀ turns₀ input store book s reader turns = Unit {0}
+Inv-loop input₀ store₀ book₀ p₀ reader₀ turns₀ input store book p reader turns = Unit {0}
 
 abbrev μ-loop : tie.MeasureT-loop
-μ-loop input₀ store₀ book₀ s₀ reader₀ turns₀ input store book s reader turns = turns
+μ-loop input₀ store₀ book₀ p₀ reader₀ turns₀ input store book p reader turns = turns
 
 pub run-spec : {M : Type 1} → statement M
 run-spec = tie.close (tie.spec Inv-loop μ-loop (λ c κs. search needs) (λ c κs. search needs) (λ c. search needs) (λ c κs. search needs) (λ c κs. search needs) (λ c κs. search needs) (λ c. search needs) (λ c. search needs) (λ c κs. search needs) (λ c. search needs))

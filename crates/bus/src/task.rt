@@ -1,0 +1,221 @@
+// The moves that a command stands for, one after the other.
+use crate::book;
+use crate::book::Book;
+use crate::deeds;
+use crate::order;
+use crate::order::Order;
+use crate::words;
+use crate::words::say;
+use ends::DESK;
+use ends::Ends;
+use ends::Store;
+use ends::line::PLACES;
+use ends::moves::Move;
+use ends::moves::OVER;
+use ends::moves::PASS;
+use ends::moves::ROUND;
+use ends::moves::at_end;
+use ends::other;
+use ends::rounds;
+use ends::rounds::PROMISED;
+use text::field::number_at;
+use text::field::u32_at;
+ghost use Prim.Native.Nat.{_<_};
+
+// first: the command's move; a round goes on with others. last: the move that is made. left: how often the first is still to be made.
+// to_the_end: no more often than brings everything through.
+pub struct Task {
+    pub first: Move,
+    pub last: Move,
+    pub left: u64,
+    pub to_the_end: bool,
+}
+
+// ---- how often its move is to be made
+
+// Not once, which is told.
+fn none(clock: u32, before: usize, end: usize, after: usize) -> u64 {
+    say(words::CLOCK, clock as u64, 0, 0);
+    say(before, 0, 0, 0);
+    words::name(end);
+    say(after, 0, 0, 0);
+    say(words::END_LINE, 0, 0, 0);
+    0
+}
+
+// A story keeps no more packets.
+fn if_kept(p: Ends, end: usize) -> u64 {
+    let e = ends::end_of(p, end);
+    match e.taken < PLACES {
+        true => 1,
+        false => none(p.clock, words::NOTHING, end, words::FULL),
+    }
+}
+
+// Where frame n is not on its way from the sender, nothing becomes of it; where there are not so many, none is carried.
+fn if_there(p: Ends, sender: usize, n: u64, times: u64) -> u64 {
+    let e = ends::end_of(p, other(sender));
+    match (0 < n) & (n <= e.queue as u64) {
+        true => times,
+        false => none(p.clock, words::NOT_THERE, sender, words::NOTHING),
+    }
+}
+
+// A number of times that is not given is 1.
+fn times(n: u64) -> u64 {
+    match n {
+        0 => 1,
+        _ => n,
+    }
+}
+
+// first, second: the numbers of its fields; of a command at an end the first is the end.
+fn left_of(p: Ends, verb: usize, first: u64, second: u64) -> u64 {
+    let end = first as usize;
+    match verb {
+        order::SUBMIT => if_kept(p, end),
+        order::CARRY => if_there(p, end, times(second), times(second)),
+        order::LOSE => if_there(p, end, second, 1),
+        order::DAMAGE => if_there(p, end, second, 1),
+        order::ROUND => times(first),
+        order::SETTLE => PROMISED,
+        _ => 1,
+    }
+}
+
+// ---- what its move is
+
+fn timely(kind: usize, ms: u32) -> Move {
+    Move {
+        kind,
+        end: DESK,
+        number: ms,
+    }
+}
+
+// Frames are named by their sender and counted from 1 on.
+fn harm(kind: usize, sender: usize, n: u32) -> Move {
+    Move {
+        kind,
+        end: other(sender),
+        number: std::num::wrapping_sub_u32(n, 1),
+    }
+}
+
+// The clock goes around its end where the moment is less than now. Of a command that moves nothing the number is none of a move.
+fn move_of(clock: u32, verb: usize, first: u32, second: u32) -> Move {
+    let end = first as usize;
+    match verb {
+        order::CARRY => at_end(verb, other(end)),
+        order::LOSE => harm(verb, end, second),
+        order::DAMAGE => harm(verb, end, second),
+        order::WAIT => timely(PASS, first),
+        order::CLOCK => timely(PASS, std::num::wrapping_sub_u32(first, clock)),
+        order::SETTLE => timely(ROUND, 0),
+        _ => at_end(verb, end),
+    }
+}
+
+// What the command has to do.
+pub fn task_of(p: Ends, o: Order) -> Task {
+    let v = o.values;
+    Task {
+        first: move_of(p.clock, o.verb, u32_at(v, 0), u32_at(v, 1)),
+        last: at_end(OVER, DESK),
+        left: left_of(p, o.verb, number_at(v, 0), number_at(v, 1)),
+        to_the_end: o.verb == order::SETTLE,
+    }
+}
+
+// ---- what is next
+
+// How the round goes on, if it is one that has begun.
+fn further(p: Ends, first: usize, last: usize) -> Move {
+    match (first == ROUND) & (last != OVER) {
+        true => rounds::next(p, last),
+        false => at_end(OVER, DESK),
+    }
+}
+
+// Whether the first is made no more: rounds that bring nothing are not.
+fn is_over(p: Ends, t: Task) -> bool {
+    (t.left == 0) | (t.to_the_end & (rounds::is_settled(p) | rounds::is_lost(p)))
+}
+
+fn next(p: Ends, t: Task) -> Task {
+    let mut k = t;
+    let m = further(p, t.first.kind, t.last.kind);
+    let first = t.first;
+    match (m.kind != OVER) | is_over(p, t) {
+        true => k.last = m,
+        false => {
+            k.last = first;
+            k.left = std::num::wrapping_sub_u64(t.left, 1);
+        }
+    }
+    k
+}
+
+// ---- what rounds came to
+
+// A reset may have dropped what was taken.
+fn is_delivered(p: Ends) -> bool {
+    (p.chip.delivered == p.desk.taken) & (p.desk.delivered == p.chip.taken)
+}
+
+fn place_of(p: Ends) -> usize {
+    match rounds::is_lost(p) {
+        true => words::A_LINK_LOST,
+        false => match rounds::is_settled(p) {
+            true => match is_delivered(p) {
+                true => words::ALL_THROUGH,
+                false => words::NONE_WAITS,
+            },
+            false => words::NOT_THROUGH,
+        },
+    }
+}
+
+// Tells what a settle came to, and how many rounds it took.
+pub fn tell_end(verb: usize, before: Ends, p: Ends) {
+    match verb {
+        order::SETTLE => say(
+            place_of(p),
+            p.clock as u64,
+            std::num::wrapping_sub_u64(p.rounds, before.rounds),
+            std::num::wrapping_sub_u64(p.passed, before.passed),
+        ),
+        _ => {}
+    }
+}
+
+// ---- all of it
+
+// More moves than a command has.
+const MOVES: u64 = u64::MAX;
+
+fn left_after(kind: usize, left: u64) -> u64
+    requires { ⌜ 0 < left ⌝ }
+    ensures { λ r. ⌜ r < left ⌝ }
+{
+    match kind < OVER {
+        true => left - 1,
+        false => 0,
+    }
+}
+
+// The ends after all moves of a command, each told, and what they took and delivered in the book.
+pub fn make_all(p: Ends, task: Task, store: &mut Store, book: &mut Book, bytes: &[u8]) -> Ends {
+    let mut k = p;
+    let mut t = task;
+    let mut left = MOVES;
+    while 0 < left {
+        t = next(k, t);
+        let moved = deeds::play(k, t.last, store, bytes);
+        let e = ends::end_of(k, t.last.end);
+        book::keep(book, e, t.last, moved.event, store, bytes);
+        k = moved.ends;
+        left = left_after(t.last.kind, left);
+    }
+    k
+}
