@@ -43,32 +43,29 @@ fn tell_harmed(store: &Store, p: Ends, m: Move) {
     words::name(ends::other(m.end));
 }
 
-// What an end does, and to what.
-fn tell_done(store: &Store, p: Ends, m: Move, packet: &[u8]) {
-    let kind = m.kind;
-    tell_doer(p.clock, m);
-    match kind {
-        SUBMIT => words::packet(packet),
-        CARRY => tell_nth(store, p, m.end, 0),
-        _ => {}
-    }
-}
-
 fn tell_deed(store: &Store, p: Ends, m: Move, bytes: &[u8]) {
     let kind = m.kind;
-    match kind <= RESYNCHRONISE {
-        true => tell_done(store, p, m, bytes),
-        false => match kind {
-            LOSE => tell_harmed(store, p, m),
-            DAMAGE => tell_harmed(store, p, m),
-            _ => {}
+    match kind {
+        SUBMIT => {
+            tell_doer(p.clock, m);
+            words::packet(bytes);
+        }
+        CARRY => {
+            tell_doer(p.clock, m);
+            tell_nth(store, p, m.end, 0);
+        }
+        LOSE => tell_harmed(store, p, m),
+        DAMAGE => tell_harmed(store, p, m),
+        _ => match kind <= RESYNCHRONISE {
+            true => tell_doer(p.clock, m),
+            false => {}
         },
     }
 }
 
 // ---- after it
 
-fn tell_packet(store: &Store, v: Event) {
+fn tell_event(store: &Store, p: Ends, v: Event) {
     match v.delivered == 0 {
         true => {}
         false => {
@@ -76,9 +73,9 @@ fn tell_packet(store: &Store, v: Event) {
             words::packet(book::delivered(store, v));
         }
     }
-}
-
-fn tell_sent(store: &Store, p: Ends, v: Event) {
+    words::say_some(words::FREES, v.freed as u64);
+    words::say_some(words::DROPS, v.dropped as u64);
+    words::answer(v.answer);
     match v.sent == 0 {
         true => {}
         false => {
@@ -86,14 +83,6 @@ fn tell_sent(store: &Store, p: Ends, v: Event) {
             words::frame(p.desk.link.settings.format, part(store, v.sent_at, v.sent));
         }
     }
-}
-
-fn tell_event(store: &Store, p: Ends, v: Event) {
-    tell_packet(store, v);
-    words::say_some(words::FREES, v.freed as u64);
-    words::say_some(words::DROPS, v.dropped as u64);
-    words::answer(v.answer);
-    tell_sent(store, p, v);
     words::say_if(v.is_crowded, words::CROWDED);
     say(words::END_LINE, 0, 0, 0);
 }
@@ -110,28 +99,20 @@ fn tell_damage(p: Ends, bytes: &[u8]) {
     say(words::END_LINE, 0, 0, 0);
 }
 
-// Moves that are no calls.
-fn tell_uncalled(p: Ends, m: Move, bytes: &[u8]) {
+fn tell_outcome(store: &Store, p: Ends, m: Move, v: Event, bytes: &[u8]) {
     let kind = m.kind;
     match kind {
-        LOSE => {
-            say(words::LOST, 0, 0, 0);
-            say(words::END_LINE, 0, 0, 0);
-        }
+        LOSE => say(words::LOST, 0, 0, 0),
         DAMAGE => tell_damage(p, bytes),
         PASS => match m.number == 0 {
             true => {}
             false => say(words::LATER, p.clock as u64, m.number as u64, 0),
         },
         ROUND => say(words::ROUND, p.clock as u64, p.rounds, 0),
-        _ => {}
-    }
-}
-
-fn tell_outcome(store: &Store, p: Ends, m: Move, v: Event, bytes: &[u8]) {
-    match m.kind <= RESYNCHRONISE {
-        true => tell_event(store, p, v),
-        false => tell_uncalled(p, m, bytes),
+        _ => match kind <= RESYNCHRONISE {
+            true => tell_event(store, p, v),
+            false => {}
+        },
     }
 }
 

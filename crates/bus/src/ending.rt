@@ -16,6 +16,16 @@ use state::Link;
 
 // ---- a moment
 
+fn tell_frames(store: &Store, p: Ends, end: usize, count: usize) {
+    let mut n: usize = 0;
+    while n < count {
+        say(words::ON_ITS_WAY, 0, 0, 0);
+        deeds::tell_nth(store, p, end, n);
+        say(words::END_LINE, 0, 0, 0);
+        n += 1;
+    }
+}
+
 fn tell_link(l: Link) {
     say(
         words::NUMBERS,
@@ -27,16 +37,6 @@ fn tell_link(l: Link) {
     say_if(l.nakmark, words::COMPLAINED);
     say_if(l.lost, words::LINK_LOST);
     say(words::END_LINE, 0, 0, 0);
-}
-
-fn tell_frames(store: &Store, p: Ends, end: usize, count: usize) {
-    let mut n: usize = 0;
-    while n < count {
-        say(words::ON_ITS_WAY, 0, 0, 0);
-        deeds::tell_nth(store, p, end, n);
-        say(words::END_LINE, 0, 0, 0);
-        n += 1;
-    }
 }
 
 // The end, and what is on its way to it.
@@ -66,19 +66,15 @@ fn tell_packets(book: &Book, shelf: usize, count: usize) {
 }
 
 // What the end got of what the other took.
-fn tell_count(end: usize, got: usize, sender: End, is_same: bool) {
+fn tell_got(book: &Book, end: usize, got: usize, sender: End) {
+    let shelf = DELIVERED + end % 2;
+    let is_same = book::is_same(book, shelf, TAKEN + ends::other(end) % 2, got);
     words::name(end);
     say(words::GOT, got as u64, sender.taken as u64, 0);
     words::name(ends::other(end));
     say_if(is_same & (got <= sender.taken) & (0 < got), words::IN_ORDER);
     words::say_some(words::DROPPED, sender.dropped);
     say(words::END_LINE, 0, 0, 0);
-}
-
-fn tell_got(book: &Book, end: usize, got: usize, sender: End) {
-    let shelf = DELIVERED + end % 2;
-    let sent = TAKEN + ends::other(end) % 2;
-    tell_count(end, got, sender, book::is_same(book, shelf, sent, got));
     tell_packets(book, shelf, got);
 }
 

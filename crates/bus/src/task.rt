@@ -14,7 +14,7 @@ use ends::moves::Move;
 use ends::moves::OVER;
 use ends::moves::PASS;
 use ends::moves::ROUND;
-use ends::moves::at_end;
+use ends::moves::new;
 use ends::other;
 use ends::rounds;
 use ends::rounds::PROMISED;
@@ -43,15 +43,6 @@ fn none(clock: u32, before: usize, end: usize, after: usize) -> u64 {
     0
 }
 
-// A story keeps no more packets.
-fn if_kept(p: Ends, end: usize) -> u64 {
-    let e = ends::end_of(p, end);
-    match e.taken < PLACES {
-        true => 1,
-        false => none(p.clock, words::NOTHING, end, words::FULL),
-    }
-}
-
 // Where frame n is not on its way from the sender, nothing becomes of it; where there are not so many, none is carried.
 fn if_there(p: Ends, sender: usize, n: u64, times: u64) -> u64 {
     let e = ends::end_of(p, other(sender));
@@ -72,8 +63,12 @@ fn times(n: u64) -> u64 {
 // first, second: the numbers of its fields; of a command at an end the first is the end.
 fn left_of(p: Ends, verb: usize, first: u64, second: u64) -> u64 {
     let end = first as usize;
+    let e = ends::end_of(p, end);
     match verb {
-        order::SUBMIT => if_kept(p, end),
+        order::SUBMIT => match e.taken < PLACES {
+            true => 1,
+            false => none(p.clock, words::NOTHING, end, words::FULL),
+        },
         order::CARRY => if_there(p, end, times(second), times(second)),
         order::LOSE => if_there(p, end, second, 1),
         order::DAMAGE => if_there(p, end, second, 1),
@@ -85,34 +80,18 @@ fn left_of(p: Ends, verb: usize, first: u64, second: u64) -> u64 {
 
 // ---- what its move is
 
-fn timely(kind: usize, ms: u32) -> Move {
-    Move {
-        kind,
-        end: DESK,
-        number: ms,
-    }
-}
-
-// Frames are named by their sender and counted from 1 on.
-fn harm(kind: usize, sender: usize, n: u32) -> Move {
-    Move {
-        kind,
-        end: other(sender),
-        number: std::num::wrapping_sub_u32(n, 1),
-    }
-}
-
-// The clock goes around its end where the moment is less than now. Of a command that moves nothing the number is none of a move.
+// Frames are named by their sender and counted from 1 on; the clock goes around its end where the moment is less than now. Of a command
+// that moves nothing the number is none of a move.
 fn move_of(clock: u32, verb: usize, first: u32, second: u32) -> Move {
     let end = first as usize;
     match verb {
-        order::CARRY => at_end(verb, other(end)),
-        order::LOSE => harm(verb, end, second),
-        order::DAMAGE => harm(verb, end, second),
-        order::WAIT => timely(PASS, first),
-        order::CLOCK => timely(PASS, std::num::wrapping_sub_u32(first, clock)),
-        order::SETTLE => timely(ROUND, 0),
-        _ => at_end(verb, end),
+        order::CARRY => new(verb, other(end), 0),
+        order::LOSE => new(verb, other(end), std::num::wrapping_sub_u32(second, 1)),
+        order::DAMAGE => new(verb, other(end), std::num::wrapping_sub_u32(second, 1)),
+        order::WAIT => new(PASS, DESK, first),
+        order::CLOCK => new(PASS, DESK, std::num::wrapping_sub_u32(first, clock)),
+        order::SETTLE => new(ROUND, DESK, 0),
+        _ => new(verb, end, 0),
     }
 }
 
@@ -121,7 +100,7 @@ pub fn task_of(p: Ends, o: Order) -> Task {
     let v = o.values;
     Task {
         first: move_of(p.clock, o.verb, u32_at(v, 0), u32_at(v, 1)),
-        last: at_end(OVER, DESK),
+        last: new(OVER, DESK, 0),
         left: left_of(p, o.verb, number_at(v, 0), number_at(v, 1)),
         to_the_end: o.verb == order::SETTLE,
     }
@@ -129,24 +108,16 @@ pub fn task_of(p: Ends, o: Order) -> Task {
 
 // ---- what is next
 
-// How the round goes on, if it is one that has begun.
-fn further(p: Ends, first: usize, last: usize) -> Move {
-    match (first == ROUND) & (last != OVER) {
-        true => rounds::next(p, last),
-        false => at_end(OVER, DESK),
-    }
-}
-
-// Whether the first is made no more: rounds that bring nothing are not.
-fn is_over(p: Ends, t: Task) -> bool {
-    (t.left == 0) | (t.to_the_end & (rounds::is_settled(p) | rounds::is_lost(p)))
-}
-
+// A round that has begun goes on; else the first move is made again, but rounds that bring nothing are not.
 fn next(p: Ends, t: Task) -> Task {
     let mut k = t;
-    let m = further(p, t.first.kind, t.last.kind);
     let first = t.first;
-    match (m.kind != OVER) | is_over(p, t) {
+    let m = match (first.kind == ROUND) & (t.last.kind != OVER) {
+        true => rounds::next(p, t.last.kind),
+        false => new(OVER, DESK, 0),
+    };
+    let is_done = t.to_the_end & (rounds::is_settled(p) | rounds::is_lost(p));
+    match (m.kind != OVER) | (t.left == 0) | is_done {
         true => k.last = m,
         false => {
             k.last = first;
@@ -159,15 +130,12 @@ fn next(p: Ends, t: Task) -> Task {
 // ---- what rounds came to
 
 // A reset may have dropped what was taken.
-fn is_delivered(p: Ends) -> bool {
-    (p.chip.delivered == p.desk.taken) & (p.desk.delivered == p.chip.taken)
-}
-
 fn place_of(p: Ends) -> usize {
+    let is_all = (p.chip.delivered == p.desk.taken) & (p.desk.delivered == p.chip.taken);
     match rounds::is_lost(p) {
         true => words::A_LINK_LOST,
         false => match rounds::is_settled(p) {
-            true => match is_delivered(p) {
+            true => match is_all {
                 true => words::ALL_THROUGH,
                 false => words::NONE_WAITS,
             },

@@ -29,8 +29,8 @@ const SPARE: usize = 135424;
 
 // ---- places
 
-// Where the place is that is n behind the first of a ring.
-fn place_of(end: usize, first: usize, n: usize) -> usize
+// Where the place is that is n behind the first of a ring: a length, and the frame behind it.
+pub fn place_of(end: usize, first: usize, n: usize) -> usize
     ensures { λ r. ⌜ r ≤ 134398 ⌝ }
 {
     let offset = (first % PLACES + n % PLACES) % PLACES * PLACE;
@@ -40,23 +40,14 @@ fn place_of(end: usize, first: usize, n: usize) -> usize
     }
 }
 
-// Where the next frame to the end is laid.
-pub fn free_place(p: Ends, end: usize) -> usize
+// Where the next frame to that end is laid.
+pub fn free_place(end: usize, e: End) -> usize
     ensures { λ r. ⌜ r ≤ 135424 ⌝ }
 {
-    let e = end_of(p, end);
     match e.queue < PLACES {
         true => place_of(end, e.first, e.queue),
         false => SPARE,
     }
-}
-
-// Where frame n of those on their way to the end begins, its length before it.
-pub fn place_at(p: Ends, end: usize, n: usize) -> usize
-    ensures { λ r. ⌜ r ≤ 134398 ⌝ }
-{
-    let e = end_of(p, end);
-    place_of(end, e.first, n)
 }
 
 // ---- what lies on a place
@@ -82,7 +73,8 @@ pub fn set_length(store: &mut [u8], place: usize, count: usize)
 
 // Frame n of those on their way to the end.
 pub fn frame_at(store: &Store, p: Ends, end: usize, n: usize) -> &[u8] {
-    let place = place_at(p, end, n);
+    let e = end_of(p, end);
+    let place = place_of(end, e.first, n);
     part(store, place + 2, length_at(store, place))
 }
 
@@ -155,11 +147,10 @@ pub fn lose(p: Ends, end: usize, store: &mut Store, n: usize) -> Ends {
 }
 
 // Frame n of those on their way to the end becomes these bytes, if it is there and a frame can have so many.
-pub fn damage(p: Ends, end: usize, store: &mut Store, n: usize, bytes: &[u8]) -> Ends {
+pub fn damage(p: Ends, end: usize, store: &mut Store, n: usize, bytes: &[u8]) {
     let e = end_of(p, end);
     match n < e.queue {
         true => put(store, place_of(end, e.first, n), bytes),
         false => {}
     }
-    p
 }

@@ -51,13 +51,9 @@ pub struct Move {
     pub number: u32,
 }
 
-// A move at an end.
-pub fn at_end(kind: usize, end: usize) -> Move {
-    Move {
-        kind,
-        end,
-        number: 0,
-    }
+// That move.
+pub fn new(kind: usize, end: usize, number: u32) -> Move {
+    Move { kind, end, number }
 }
 
 // ---- what came of it
@@ -97,31 +93,16 @@ fn without_event(p: Ends) -> Moved {
     Moved { ends: p, event }
 }
 
-// A reset drops all that waits; nothing else but an acknowledgement makes it fewer.
-fn freed(waited: u8, o: Outcome) -> u8 {
-    match (o.dropped == 0) & (o.state.waiting < waited) {
-        true => std::num::wrapping_sub_u8(waited, o.state.waiting),
-        false => 0,
-    }
-}
-
-fn counted(n: usize, is_one: bool) -> usize {
-    match is_one {
-        true => std::num::wrapping_add_usize(n, 1),
-        false => n,
-    }
-}
-
 // The end at which the call was made. What is carried is on its way no more.
-fn after_call(e: End, kind: usize, o: Outcome) -> End {
+fn after_call(e: End, kind: usize, o: Outcome, took: usize) -> End {
     let mut k = match kind {
         CARRY => line::without_first(e),
         _ => e,
     };
     let state = o.state;
     k.link = state;
-    k.taken = counted(e.taken, (kind == SUBMIT) & (o.answer == DONE));
-    k.delivered = counted(e.delivered, 0 < o.delivered);
+    k.taken = std::num::wrapping_add_usize(e.taken, took);
+    k.delivered = std::num::wrapping_add_usize(e.delivered, (0 < o.delivered) as usize);
     k.dropped = std::num::wrapping_add_u64(e.dropped, o.dropped as u64);
     k
 }
@@ -134,19 +115,29 @@ fn after_sending(e: End, sent: u16) -> End {
     }
 }
 
-fn after(p: Ends, m: Move, o: Outcome, sent_at: usize) -> Moved {
+// What waited and was taken waits still, or was freed by an acknowledgement, or dropped by a reset.
+fn freed(waited: u8, took: u8, o: Outcome) -> u8 {
+    let known = std::num::wrapping_add_u8(waited, took);
+    std::num::wrapping_sub_u8(known, std::num::wrapping_add_u8(o.state.waiting, o.dropped))
+}
+
+fn after(p: Ends, m: Move, o: Outcome, there: End, sent_at: usize) -> Moved {
     let here = end_of(p, m.end);
-    let there = end_of(p, other(m.end));
-    let k = after_call(here, m.kind, o);
+    let took = (m.kind == SUBMIT) & (o.answer == DONE);
     Moved {
-        ends: with_both(p, m.end, k, after_sending(there, o.sent)),
+        ends: with_both(
+            p,
+            m.end,
+            after_call(here, m.kind, o, took as usize),
+            after_sending(there, o.sent),
+        ),
         event: Event {
-            heard_at: line::place_at(p, m.end, 0) + 2,
+            heard_at: line::place_of(m.end, here.first, 0) + 2,
             sent_at,
             sent: o.sent as usize,
             delivered: o.delivered as usize,
             answer: o.answer,
-            freed: freed(here.link.waiting, o),
+            freed: freed(here.link.waiting, took as u8, o),
             dropped: o.dropped,
             is_crowded: (PLACES <= there.queue) & (0 < o.sent),
         },
@@ -157,11 +148,6 @@ fn after(p: Ends, m: Move, o: Outcome, sent_at: usize) -> Moved {
 
 // Room for the longest frame.
 type Frame = [u8; FRAME];
-
-fn look(l: Link, slots: &[u8], frame: &mut Frame, ms: u32) -> Outcome {
-    let looked = link::look(l, slots, frame, ms);
-    looked.outcome
-}
 
 // The calls that leave the slots as they are. received: the frame that a carry brings.
 fn reading(
@@ -174,7 +160,10 @@ fn reading(
 ) -> Outcome {
     match kind {
         CARRY => link::take(l, slots, frame, ms, received),
-        LOOK => look(l, slots, frame, ms),
+        LOOK => {
+            let looked = link::look(l, slots, frame, ms);
+            looked.outcome
+        }
         ACKNOWLEDGE => link::acknowledge(l, slots, frame, ms),
         _ => link::resynchronise(l, slots, frame, ms),
     }
@@ -216,9 +205,10 @@ fn outcome_of(p: Ends, m: Move, store: &mut Store, frame: &mut Frame, packet: &[
 
 // The ends after a call at one of them, with the frame that it sent on its way.
 fn sent_on(p: Ends, m: Move, o: Outcome, store: &mut Store, frame: &Frame) -> Moved {
-    let place = line::free_place(p, other(m.end));
+    let there = end_of(p, other(m.end));
+    let place = line::free_place(other(m.end), there);
     line::put(store, place, part(frame, 0, o.sent as usize));
-    after(p, m, o, place + 2)
+    after(p, m, o, there, place + 2)
 }
 
 fn call(p: Ends, m: Move, store: &mut Store, packet: &[u8]) -> Moved {
@@ -229,11 +219,13 @@ fn call(p: Ends, m: Move, store: &mut Store, packet: &[u8]) -> Moved {
 
 // ---- every move
 
-// The clock's moves.
-fn timely(p: Ends, m: Move) -> Ends {
+// The moves that are no calls.
+fn uncalled(p: Ends, m: Move, store: &mut Store, bytes: &[u8]) -> Ends {
     let mut k = p;
     let kind = m.kind;
     match kind {
+        LOSE => k = line::lose(p, m.end, store, m.number as usize),
+        DAMAGE => line::damage(p, m.end, store, m.number as usize, bytes),
         PASS => {
             k.clock = std::num::wrapping_add_u32(p.clock, m.number);
             k.passed = std::num::wrapping_add_u64(p.passed, m.number as u64);
@@ -244,24 +236,10 @@ fn timely(p: Ends, m: Move) -> Ends {
     k
 }
 
-// The moves that are no calls.
-fn uncalled(p: Ends, m: Move, store: &mut Store, bytes: &[u8]) -> Ends {
-    let kind = m.kind;
-    match kind {
-        LOSE => line::lose(p, m.end, store, m.number as usize),
-        DAMAGE => line::damage(p, m.end, store, m.number as usize, bytes),
-        _ => timely(p, m),
-    }
-}
-
 // Whether a call is made: none is where no frame is there to be carried.
 fn is_call(p: Ends, m: Move) -> bool {
     let e = end_of(p, m.end);
-    let kind = m.kind;
-    match kind {
-        CARRY => 0 < e.queue,
-        _ => kind <= RESYNCHRONISE,
-    }
+    (m.kind <= RESYNCHRONISE) & ((m.kind != CARRY) | (0 < e.queue))
 }
 
 // The ends after a move, and what came of it. bytes: what a submit is handed, or what a damaged frame becomes; no other move reads them.

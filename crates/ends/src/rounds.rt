@@ -9,7 +9,7 @@ use crate::moves::Move;
 use crate::moves::OVER;
 use crate::moves::PASS;
 use crate::moves::ROUND;
-use crate::moves::at_end;
+use crate::moves::new;
 use state::Link;
 
 // The most rounds that document 01 promises to need.
@@ -21,10 +21,10 @@ fn is_due(l: Link, ms: u32) -> bool {
 
 fn next_look(p: Ends) -> Move {
     match is_due(p.desk.link, p.clock) {
-        true => at_end(LOOK, DESK),
+        true => new(LOOK, DESK, 0),
         false => match is_due(p.chip.link, p.clock) {
-            true => at_end(LOOK, CHIP),
-            false => at_end(OVER, DESK),
+            true => new(LOOK, CHIP, 0),
+            false => new(OVER, DESK, 0),
         },
     }
 }
@@ -48,21 +48,17 @@ fn next_timer(p: Ends) -> Move {
     let ms = first_due(p);
     match ms {
         0 => next_look(p),
-        _ => Move {
-            kind: PASS,
-            end: DESK,
-            number: ms,
-        },
+        _ => new(PASS, DESK, ms),
     }
 }
 
 // From the longer queue, so that the other has room for what comes of it.
 fn next_carry(p: Ends) -> Move {
     match p.chip.queue < p.desk.queue {
-        true => at_end(CARRY, DESK),
+        true => new(CARRY, DESK, 0),
         false => match p.chip.queue == 0 {
             true => next_timer(p),
-            false => at_end(CARRY, CHIP),
+            false => new(CARRY, CHIP, 0),
         },
     }
 }

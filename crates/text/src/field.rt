@@ -328,35 +328,20 @@ pub fn number_at(v: Values, n: usize) -> u64 {
 
 // Number n, of a field whose largest is U8.
 pub fn u8_at(v: Values, n: usize) -> u8 {
-    as_u8(number_at(v, n))
+    (number_at(v, n) % 256) as u8
 }
 
 // Number n, of a field whose largest is U16.
 pub fn u16_at(v: Values, n: usize) -> u16 {
-    as_u16(number_at(v, n))
+    (number_at(v, n) % 65536) as u16
 }
 
 // Number n, of a field whose largest is U32.
 pub fn u32_at(v: Values, n: usize) -> u32 {
-    as_u32(number_at(v, n))
+    (number_at(v, n) % 4294967296) as u32
 }
 
 // Number n, of a field whose largest is FLAG.
 pub fn flag_at(v: Values, n: usize) -> bool {
     number_at(v, n) == 1
-}
-
-// The number of a field whose largest is U8.
-pub fn as_u8(value: u64) -> u8 {
-    (value % 256) as u8
-}
-
-// The number of a field whose largest is U16.
-pub fn as_u16(value: u64) -> u16 {
-    (value % 65536) as u16
-}
-
-// The number of a field whose largest is U32.
-pub fn as_u32(value: u64) -> u32 {
-    (value % 4294967296) as u32
 }
