@@ -18,10 +18,12 @@ use ends::moves::PASS;
 use ends::moves::RESYNCHRONISE;
 use ends::moves::ROUND;
 use ends::moves::SUBMIT;
+use text::heard;
+use text::lay;
 
 // Tells frame n of those on their way to the end; both ends have the same settings.
 pub fn tell_nth(store: &Store, p: Ends, end: usize, n: usize) {
-    words::frame(
+    heard::write_frame(
         p.desk.link.settings.format,
         line::frame_at(store, p, end, n),
     );
@@ -48,7 +50,7 @@ fn tell_deed(store: &Store, p: Ends, m: Move, bytes: &[u8]) {
     match kind {
         SUBMIT => {
             tell_doer(p.clock, m);
-            words::packet(bytes);
+            lay::write_quoted(bytes);
         }
         CARRY => {
             tell_doer(p.clock, m);
@@ -70,7 +72,7 @@ fn tell_event(store: &Store, p: Ends, v: Event) {
         true => {}
         false => {
             say(words::DELIVERS, 0, 0, 0);
-            words::packet(book::delivered(store, v));
+            lay::write_quoted(book::delivered(store, v));
         }
     }
     words::say_some(words::FREES, v.freed as u64);
@@ -80,7 +82,7 @@ fn tell_event(store: &Store, p: Ends, v: Event) {
         true => {}
         false => {
             say(words::SENDS, 0, 0, 0);
-            words::frame(p.desk.link.settings.format, part(store, v.sent_at, v.sent));
+            heard::write_frame(p.desk.link.settings.format, part(store, v.sent_at, v.sent));
         }
     }
     words::say_if(v.is_crowded, words::CROWDED);
@@ -93,7 +95,7 @@ fn tell_damage(p: Ends, bytes: &[u8]) {
         true => say(words::STAYS, 0, 0, 0),
         false => {
             say(words::DAMAGED, 0, 0, 0);
-            words::frame(p.desk.link.settings.format, bytes);
+            heard::write_frame(p.desk.link.settings.format, bytes);
         }
     }
     say(words::END_LINE, 0, 0, 0);

@@ -13,6 +13,7 @@ use ends::End;
 use ends::Ends;
 use ends::Store;
 use state::Link;
+use text::lay;
 
 // ---- a moment
 
@@ -39,18 +40,12 @@ fn tell_link(l: Link) {
     say(words::END_LINE, 0, 0, 0);
 }
 
-// The end, and what is on its way to it.
-fn show_end(store: &Store, p: Ends, end: usize, e: End) {
+// Tells the end, and what is on its way to it.
+pub fn show(store: &Store, p: Ends, end: usize, e: End) {
     say(words::CLOCK, p.clock as u64, 0, 0);
     words::name(end);
     tell_link(e.link);
     tell_frames(store, p, end, e.queue);
-}
-
-// Tells both ends.
-pub fn show(store: &Store, p: Ends) {
-    show_end(store, p, DESK, p.desk);
-    show_end(store, p, CHIP, p.chip);
 }
 
 // ---- the end
@@ -59,7 +54,7 @@ fn tell_packets(book: &Book, shelf: usize, count: usize) {
     let mut n: usize = 0;
     while n < count {
         say(words::INDENT, 0, 0, 0);
-        words::packet(book::packet_at(book, shelf, n));
+        lay::write_quoted(book::packet_at(book, shelf, n));
         say(words::END_LINE, 0, 0, 0);
         n += 1;
     }

@@ -7,6 +7,8 @@ use crate::task;
 use crate::words;
 use crate::words::say;
 use base::buffer::part;
+use ends::CHIP;
+use ends::DESK;
 use ends::Ends;
 use ends::Store;
 use frame::Format;
@@ -67,7 +69,10 @@ fn begin(p: Ends, o: Order, number: u64, store: &Store, book: &Book, text: &[u8]
             ending::tell(book, p);
             return ends::nobody();
         }
-        order::SHOW => ending::show(store, p),
+        order::SHOW => {
+            ending::show(store, p, DESK, p.desk);
+            ending::show(store, p, CHIP, p.chip);
+        }
         order::TELL => {
             lay::write_printable(text);
             say(words::END_LINE, 0, 0, 0);

@@ -1,20 +1,14 @@
 // The words of the story. A line is written phrase by phrase: each is chosen by a number, and no text is handed about.
 use base::answer;
-use base::buffer::part;
-use frame::Format;
-use text::heard;
 use text::lay;
 use text::least;
-
-// A packet is told up to here.
-const TOLD: usize = 60;
 
 // ---- phrases
 
 // Writes a phrase by its place, and the numbers in it.
 pub fn say(n: usize, a: u64, b: u64, c: u64) {
     lay::write_chosen(
-        b"the desk|the chip| submits | hears | looks at the clock| acknowledges now| resynchronises|[%] |, delivers |, frees %|, drops %|, sends |, which is lost: too many frames are on their way| from | is lost\n| stays: no frame has over 1024 bytes| is damaged: now |no such frame is on its way from | has taken 64 packets, and a story keeps no more|\"|\"..|noise (% bytes)|[%] % ms later\n|[%] -- round %\n|[%] -- a link is lost; timer rounds: %, milliseconds: %\n|[%] -- all is through; timer rounds: %, milliseconds: %\n|[%] -- nothing waits any more; timer rounds: %, milliseconds: %\n|[%] -- not all is through; timer rounds: %, milliseconds: %\n|bad line %\n|the desk and the chip start: D %, window %, a packet again after % ms|, at most % times, an acknowledgement after % ms|: sends number % next, expects %, waiting packets: %|, owes an acknowledgement|, has sent its nak|, link lost|  on its way there: |-- in the end\n| got % of % packets taken at |, each once and in order|; dropped there by a reset: %|  |waiting at the desk: %|, at the chip: %| (link lost)|timer rounds: %, milliseconds: %\n|\n",
+        b"the desk|the chip| submits | hears | looks at the clock| acknowledges now| resynchronises|[%] |, delivers |, frees %|, drops %|, sends |, which is lost: too many frames are on their way| from | is lost\n| stays: no frame has over 1024 bytes| is damaged: now |no such frame is on its way from | has taken 64 packets, and a story keeps no more|[%] % ms later\n|[%] -- round %\n|[%] -- a link is lost; timer rounds: %, milliseconds: %\n|[%] -- all is through; timer rounds: %, milliseconds: %\n|[%] -- nothing waits any more; timer rounds: %, milliseconds: %\n|[%] -- not all is through; timer rounds: %, milliseconds: %\n|bad line %\n|the desk and the chip start: D %, window %, a packet again after % ms|, at most % times, an acknowledgement after % ms|: sends number % next, expects %, waiting packets: %|, owes an acknowledgement|, has sent its nak|, link lost|  on its way there: |-- in the end\n| got % of % packets taken at |, each once and in order|; dropped there by a reset: %|  |waiting at the desk: %|, at the chip: %| (link lost)|timer rounds: %, milliseconds: %\n|\n",
         n,
         a,
         b,
@@ -55,66 +49,60 @@ pub const NOT_THERE: usize = 17;
 
 pub const FULL: usize = 18;
 
-const QUOTE: usize = 19;
+pub const LATER: usize = 19;
 
-const CUT_OFF: usize = 20;
-
-const NOISE: usize = 21;
-
-pub const LATER: usize = 22;
-
-pub const ROUND: usize = 23;
+pub const ROUND: usize = 20;
 
 // What rounds came to.
-pub const A_LINK_LOST: usize = 24;
+pub const A_LINK_LOST: usize = 21;
 
-pub const ALL_THROUGH: usize = 25;
+pub const ALL_THROUGH: usize = 22;
 
-pub const NONE_WAITS: usize = 26;
+pub const NONE_WAITS: usize = 23;
 
-pub const NOT_THROUGH: usize = 27;
+pub const NOT_THROUGH: usize = 24;
 
-pub const BAD: usize = 28;
+pub const BAD: usize = 25;
 
 // The settings of a pair that starts.
-pub const START: usize = 29;
+pub const START: usize = 26;
 
-pub const REPEATS: usize = 30;
+pub const REPEATS: usize = 27;
 
 // An end at a moment.
-pub const NUMBERS: usize = 31;
+pub const NUMBERS: usize = 28;
 
-pub const OWES: usize = 32;
+pub const OWES: usize = 29;
 
-pub const COMPLAINED: usize = 33;
+pub const COMPLAINED: usize = 30;
 
-pub const LINK_LOST: usize = 34;
+pub const LINK_LOST: usize = 31;
 
-pub const ON_ITS_WAY: usize = 35;
+pub const ON_ITS_WAY: usize = 32;
 
 // The ending.
-pub const IN_THE_END: usize = 36;
+pub const IN_THE_END: usize = 33;
 
-pub const GOT: usize = 37;
+pub const GOT: usize = 34;
 
-pub const IN_ORDER: usize = 38;
+pub const IN_ORDER: usize = 35;
 
-pub const DROPPED: usize = 39;
+pub const DROPPED: usize = 36;
 
-pub const INDENT: usize = 40;
+pub const INDENT: usize = 37;
 
-pub const AT_DESK: usize = 41;
+pub const AT_DESK: usize = 38;
 
-pub const AT_CHIP: usize = 42;
+pub const AT_CHIP: usize = 39;
 
-pub const IS_LOST: usize = 43;
+pub const IS_LOST: usize = 40;
 
-pub const TIME: usize = 44;
+pub const TIME: usize = 41;
 
-pub const END_LINE: usize = 45;
+pub const END_LINE: usize = 42;
 
 // No words.
-pub const NOTHING: usize = 46;
+pub const NOTHING: usize = 43;
 
 // Writes the phrase, if its number is not 0.
 pub fn say_some(n: usize, number: u64) {
@@ -129,27 +117,6 @@ pub fn say_if(is_so: bool, n: usize) {
     match is_so {
         true => say(n, 0, 0, 0),
         false => {}
-    }
-}
-
-// ---- packets and frames
-
-// A packet in quotes; of a long one the beginning.
-pub fn packet(packet: &[u8]) {
-    say(QUOTE, 0, 0, 0);
-    lay::write_printable(part(packet, 0, least(packet.len(), TOLD)));
-    match TOLD < packet.len() {
-        true => say(CUT_OFF, 0, 0, 0),
-        false => say(QUOTE, 0, 0, 0),
-    }
-}
-
-// A frame's name, as an end with that format hears it.
-pub fn frame(format: Format, frame: &[u8]) {
-    let heard = frame::hear(format, frame);
-    match frame::refusal(heard) {
-        answer::DONE => heard::write_heard(heard),
-        _ => say(NOISE, frame.len() as u64, 0, 0),
     }
 }
 

@@ -236,15 +236,11 @@ fn uncalled(p: Ends, m: Move, store: &mut Store, bytes: &[u8]) -> Ends {
     k
 }
 
-// Whether a call is made: none is where no frame is there to be carried.
-fn is_call(p: Ends, m: Move) -> bool {
-    let e = end_of(p, m.end);
-    (m.kind <= RESYNCHRONISE) & ((m.kind != CARRY) | (0 < e.queue))
-}
-
 // The ends after a move, and what came of it. bytes: what a submit is handed, or what a damaged frame becomes; no other move reads them.
+// Where no frame is there to be carried, nothing happens.
 pub fn make(p: Ends, m: Move, store: &mut Store, bytes: &[u8]) -> Moved {
-    match is_call(p, m) {
+    let e = end_of(p, m.end);
+    match (m.kind <= RESYNCHRONISE) & ((m.kind != CARRY) | (0 < e.queue)) {
         true => call(p, m, store, bytes),
         false => without_event(uncalled(p, m, store, bytes)),
     }

@@ -43,21 +43,19 @@ fn first_due(p: Ends) -> u32 {
     }
 }
 
-// When nothing is on its way any more.
-fn next_timer(p: Ends) -> Move {
-    let ms = first_due(p);
+fn next_timer(p: Ends, ms: u32) -> Move {
     match ms {
         0 => next_look(p),
         _ => new(PASS, DESK, ms),
     }
 }
 
-// From the longer queue, so that the other has room for what comes of it.
+// From the longer queue, so that the other has room for what comes of it; when nothing is on its way any more, the clock.
 fn next_carry(p: Ends) -> Move {
     match p.chip.queue < p.desk.queue {
         true => new(CARRY, DESK, 0),
         false => match p.chip.queue == 0 {
-            true => next_timer(p),
+            true => next_timer(p, first_due(p)),
             false => new(CARRY, CHIP, 0),
         },
     }

@@ -1,5 +1,7 @@
 // The name of a frame, as an end hears it.
 use crate::lay;
+use base::answer;
+use frame::Format;
 use frame::Heard;
 
 // A place in the list of names, and the numbers that stand in the name.
@@ -50,4 +52,13 @@ pub fn write_heard(h: Heard) {
         n.second as u64,
         0,
     );
+}
+
+// Writes what an end with that format hears in the frame; `noise` where it is one that steps 1 to 4 refuse.
+pub fn write_frame(format: Format, frame: &[u8]) {
+    let heard = frame::hear(format, frame);
+    match frame::refusal(heard) {
+        answer::DONE => write_heard(heard),
+        _ => lay::write_chosen(b"noise (% bytes)", 0, frame.len() as u64, 0, 0),
+    }
 }

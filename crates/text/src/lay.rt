@@ -1,6 +1,7 @@
 // Text for standard output. It is laid into a lent array from an index on, and each function gives the index past what it laid. Where the
 // array is full, what was laid is written and laying goes on at its front: nothing is left out, however short the array.
 use crate::least;
+use base::buffer::part;
 use libc::STDOUT_FILENO;
 ghost use Prim.Native.Nat.{_≤_, _<_};
 ghost use lib.ListN.{length};
@@ -190,6 +191,19 @@ pub fn write_printable(bytes: &[u8]) {
     let mut out = [0u8; LINE];
     let at = add_printable(&mut out, 0, bytes);
     write_out(&out, at);
+}
+
+// Of longer bytes that are quoted the beginning will do.
+const QUOTED: usize = 60;
+
+// Writes bytes as characters in quotes; of many the beginning, and two dots.
+pub fn write_quoted(bytes: &[u8]) {
+    write(b"\"");
+    write_printable(part(bytes, 0, least(bytes.len(), QUOTED)));
+    match QUOTED < bytes.len() {
+        true => write(b"\".."),
+        false => write(b"\""),
+    }
 }
 
 // ---- lines
