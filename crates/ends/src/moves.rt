@@ -13,6 +13,7 @@ use crate::slots_of;
 use crate::with_both;
 use base::answer::DONE;
 use base::buffer::part;
+use link::chosen;
 use state::Link;
 use state::Outcome;
 ghost use Prim.Native.Nat.{_+_, _≤_};
@@ -21,15 +22,15 @@ ghost use lib.ListN.{length};
 // ---- moves
 
 // The calls at an end; the first frame on its way to it is carried there, which is its call to take it.
-pub const SUBMIT: usize = 0;
+pub const SUBMIT: usize = chosen::SUBMIT;
 
-pub const CARRY: usize = 1;
+pub const CARRY: usize = chosen::TAKE;
 
-pub const LOOK: usize = 2;
+pub const LOOK: usize = chosen::LOOK;
 
-pub const ACKNOWLEDGE: usize = 3;
+pub const ACKNOWLEDGE: usize = chosen::ACKNOWLEDGE;
 
-pub const RESYNCHRONISE: usize = 4;
+pub const RESYNCHRONISE: usize = chosen::RESYNCHRONISE;
 
 // Frame `number` of those on their way to the end, from 0 on.
 pub const LOSE: usize = 5;
@@ -149,28 +150,9 @@ fn after(p: Ends, m: Move, o: Outcome, there: End, sent_at: usize) -> Moved {
 // Room for the longest frame.
 type Frame = [u8; FRAME];
 
-// The calls that leave the slots as they are. received: the frame that a carry brings.
-fn reading(
-    kind: usize,
-    l: Link,
-    slots: &[u8],
-    frame: &mut Frame,
-    ms: u32,
-    received: &[u8],
-) -> Outcome {
-    match kind {
-        CARRY => link::take(l, slots, frame, ms, received),
-        LOOK => {
-            let looked = link::look(l, slots, frame, ms);
-            looked.outcome
-        }
-        ACKNOWLEDGE => link::acknowledge(l, slots, frame, ms),
-        _ => link::resynchronise(l, slots, frame, ms),
-    }
-}
-
+// The calls that leave the slots as they are.
 fn read_at(p: Ends, m: Move, l: Link, store: &Store, frame: &mut Frame) -> Outcome {
-    reading(
+    chosen::reading(
         m.kind,
         l,
         part(store, slots_of(m.end), SLOTS),

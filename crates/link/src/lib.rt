@@ -1,4 +1,6 @@
 // One end of the link: the six calls, each with all that it promises. None of them requires anything.
+pub mod chosen;
+
 use clock::Looked;
 use state::Link;
 use state::Outcome;

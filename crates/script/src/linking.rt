@@ -10,8 +10,8 @@ use crate::session::Slots;
 use crate::session::UNSENT;
 use crate::session::UNWRITTEN;
 use base::buffer::part;
-use clock::Looked;
 use frame::Format;
+use link::chosen;
 use state::Link;
 use state::Outcome;
 use state::Settings;
@@ -37,22 +37,22 @@ use text::least;
 
 // ---- words
 
-const WORDS: [u8; 59] = *b"start submit take look acknowledge resynchronise lend state";
+const WORDS: [u8; 59] = *b"submit take look acknowledge resynchronise start lend state";
 
-// How many they are, and their places in the list.
+// How many they are, and their places in the list: first the calls that link numbers.
 pub const COUNT: usize = 8;
 
-const START: usize = 0;
+const SUBMIT: usize = chosen::SUBMIT;
 
-const SUBMIT: usize = 1;
+const TAKE: usize = chosen::TAKE;
 
-const TAKE: usize = 2;
+const LOOK: usize = chosen::LOOK;
 
-const LOOK: usize = 3;
+const ACKNOWLEDGE: usize = chosen::ACKNOWLEDGE;
 
-const ACKNOWLEDGE: usize = 4;
+const RESYNCHRONISE: usize = chosen::RESYNCHRONISE;
 
-const RESYNCHRONISE: usize = 5;
+const START: usize = 5;
 
 const LEND: usize = 6;
 
@@ -167,36 +167,6 @@ fn with_link(s: Session, link: Link) -> Session {
 
 // ---- calls
 
-fn outcome(looked: Looked) -> Outcome {
-    looked.outcome
-}
-
-// The calls that are given a time only.
-fn timed(word: usize, l: Link, slots: &[u8], frame: &mut [u8], ms: u32) -> Outcome {
-    match word {
-        LOOK => outcome(link::look(l, slots, frame, ms)),
-        ACKNOWLEDGE => link::acknowledge(l, slots, frame, ms),
-        _ => link::resynchronise(l, slots, frame, ms),
-    }
-}
-
-// The calls that leave the slots as they are.
-fn reading(
-    word: usize,
-    v: Values,
-    l: Link,
-    slots: &[u8],
-    frame: &mut [u8],
-    ms: u32,
-    bytes: &[u8],
-) -> Outcome {
-    match word {
-        START => link::start(settings_of(v), slots),
-        TAKE => link::take(l, slots, frame, ms, bytes),
-        _ => timed(word, l, slots, frame, ms),
-    }
-}
-
 // A call looks at its own fields only: settings, or a time and bytes.
 fn outcome_of(
     word: usize,
@@ -207,8 +177,9 @@ fn outcome_of(
     bytes: &[u8],
 ) -> Outcome {
     match word {
+        START => link::start(settings_of(v), slots),
         SUBMIT => link::submit(l, slots, frame, u32_at(v, 0), bytes),
-        _ => reading(word, v, l, slots, frame, u32_at(v, 0), bytes),
+        _ => chosen::reading(word, l, slots, frame, u32_at(v, 0), bytes),
     }
 }
 
