@@ -19,6 +19,7 @@ use text::field::u16_at;
 use text::field::u32_at;
 use text::input::Input;
 use text::lay;
+use text::lines;
 use text::lines::LONGEST;
 use text::lines::Reader;
 
@@ -86,8 +87,7 @@ fn begin(p: Ends, o: Order, number: u64, store: &Store, book: &Book, text: &[u8]
 // The ends after the line that the reader is at, if it is at one.
 pub fn obey_line(input: &Input, r: Reader, store: &mut Store, book: &mut Book, p: Ends) -> Ends {
     let mut bytes = [0u8; LONGEST];
-    let line = part(input, r.start, std::num::wrapping_sub_usize(r.end, r.start));
-    let o = order::read(line, r, &mut bytes);
+    let o = order::read(lines::line_of(input, r), r, &mut bytes);
     let text = part(&bytes, 0, o.count);
     let before = begin(p, o, r.number, store, book, text);
     let after = task::make_all(before, task::task_of(before, o), store, book, text);

@@ -18,7 +18,6 @@ use ends::moves::new;
 use ends::other;
 use ends::rounds;
 use ends::rounds::PROMISED;
-use text::field::number_at;
 use text::field::u32_at;
 ghost use Prim.Native.Nat.{_<_};
 
@@ -98,10 +97,12 @@ fn move_of(clock: u32, verb: usize, first: u32, second: u32) -> Move {
 // What the command has to do.
 pub fn task_of(p: Ends, o: Order) -> Task {
     let v = o.values;
+    let first = u32_at(v, 0);
+    let second = u32_at(v, 1);
     Task {
-        first: move_of(p.clock, o.verb, u32_at(v, 0), u32_at(v, 1)),
+        first: move_of(p.clock, o.verb, first, second),
         last: new(OVER, DESK, 0),
-        left: left_of(p, o.verb, number_at(v, 0), number_at(v, 1)),
+        left: left_of(p, o.verb, first as u64, second as u64),
         to_the_end: o.verb == order::SETTLE,
     }
 }

@@ -106,10 +106,9 @@ fn act(
 
 // ---- all lines
 
-fn obey(input: &[u8], r: Reader, slots: &mut Slots, room: &mut Room, s: Session) -> Session {
+fn obey(input: &Input, r: Reader, slots: &mut Slots, room: &mut Room, s: Session) -> Session {
     let mut bytes = [0u8; MOST_BYTES];
-    let length = std::num::wrapping_sub_usize(r.end, r.start);
-    let line = part(input, r.start, length);
+    let line = lines::line_of(input, r);
     let c = command(line, r, s.is_worked);
     let f = read(line, c, &mut bytes);
     begin(line, r.number, c, f.good, s.is_worked);

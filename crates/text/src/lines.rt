@@ -3,6 +3,7 @@ use crate::input;
 use crate::input::INPUT;
 use crate::input::Input;
 use crate::least;
+use base::buffer::part;
 ghost use Prim.Native.Nat.{_+_, _≤_, _<_};
 ghost use lib.ListN.{length};
 ghost use mathlib.Core.Path.{_≡_};
@@ -51,6 +52,11 @@ pub const LONG: usize = 1;
 pub const SILENT: usize = 2;
 
 pub const LINE: usize = 3;
+
+// The line that the reader is at.
+pub fn line_of(input: &Input, r: Reader) -> &[u8] {
+    part(input, r.start, std::num::wrapping_sub_usize(r.end, r.start))
+}
 
 // Whether a line asks for nothing.
 fn is_silent(line: &[u8]) -> bool {
