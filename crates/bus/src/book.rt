@@ -36,15 +36,6 @@ pub fn packet_at(book: &Book, shelf: usize, n: usize) -> &[u8] {
     part(book, place + 2, line::length_at(book, place))
 }
 
-// The packet that a move delivered.
-pub fn delivered(store: &Store, v: Event) -> &[u8] {
-    part(
-        store,
-        std::num::wrapping_add_usize(v.heard_at, 3),
-        v.delivered,
-    )
-}
-
 // Lays what a move at that end handed it, or what came of it, on the next place. If nothing was taken or delivered, the end does not
 // count it, and the next takes its place.
 pub fn keep(book: &mut Book, e: End, m: Move, v: Event, store: &Store, packet: &[u8]) {
@@ -55,7 +46,7 @@ pub fn keep(book: &mut Book, e: End, m: Move, v: Event, store: &Store, packet: &
         CARRY => put(
             book,
             place_of(DELIVERED + end, e.delivered),
-            delivered(store, v),
+            part(store, v.delivered_at, v.delivered),
         ),
         _ => {}
     }

@@ -1,5 +1,4 @@
 // A move of the ends, told in a line.
-use crate::book;
 use crate::words;
 use crate::words::say;
 use base::buffer::part;
@@ -72,7 +71,7 @@ fn tell_event(store: &Store, p: Ends, v: Event) {
         true => {}
         false => {
             say(words::DELIVERS, 0, 0, 0);
-            lay::write_quoted(book::delivered(store, v));
+            lay::write_quoted(part(store, v.delivered_at, v.delivered));
         }
     }
     words::say_some(words::FREES, v.freed as u64);

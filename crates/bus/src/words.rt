@@ -5,10 +5,10 @@ use text::least;
 
 // ---- phrases
 
-// Writes a phrase by its place, and the numbers in it.
+// Writes a phrase by its place, and the numbers in it; none behind the last.
 pub fn say(n: usize, a: u64, b: u64, c: u64) {
     lay::write_chosen(
-        b"the desk|the chip| submits | hears | looks at the clock| acknowledges now| resynchronises|[%] |, delivers |, frees %|, drops %|, sends |, which is lost: too many frames are on their way| from | is lost\n| stays: no frame has over 1024 bytes| is damaged: now |no such frame is on its way from | has taken 64 packets, and a story keeps no more|[%] % ms later\n|[%] -- round %\n|[%] -- a link is lost; timer rounds: %, milliseconds: %\n|[%] -- all is through; timer rounds: %, milliseconds: %\n|[%] -- nothing waits any more; timer rounds: %, milliseconds: %\n|[%] -- not all is through; timer rounds: %, milliseconds: %\n|bad line %\n|the desk and the chip start: D %, window %, a packet again after % ms|, at most % times, an acknowledgement after % ms|: sends number % next, expects %, waiting packets: %|, owes an acknowledgement|, has sent its nak|, link lost|  on its way there: |-- in the end\n| got % of % packets taken at |, each once and in order|; dropped there by a reset: %|  |waiting at the desk: %|, at the chip: %| (link lost)|timer rounds: %, milliseconds: %\n|\n",
+        b"the desk|the chip| submits | hears | looks at the clock| acknowledges now| resynchronises|[%] |, delivers |, frees %|, drops %|, sends |, which is lost: too many frames are on their way| from | is lost\n| stays: no frame has over 1024 bytes| is damaged: now |no such frame is on its way from | has taken 64 packets, and a story keeps no more|[%] % ms later\n|[%] -- round %\n|[%] -- a link is lost; timer rounds: %, milliseconds: %\n|[%] -- all is through; timer rounds: %, milliseconds: %\n|[%] -- nothing waits any more; timer rounds: %, milliseconds: %\n|[%] -- not all is through; timer rounds: %, milliseconds: %\n|bad line %\n|the desk and the chip start: D %, window %, a packet again after % ms|, at most % times, an acknowledgement after % ms|: sends number % next, expects %, waiting packets: %|, owes an acknowledgement|, has sent its nak|, link lost|  on its way there: |-- in the end\n| got % of % packets taken at |, each once and in order|; dropped there by a reset: %|  |waiting at the desk: %|, at the chip: %| (link lost)|timer rounds: %, milliseconds: %\n|\n||, answers % (a setting out of range)|, answers %|, answers % (link lost)|, answers % (packet empty or too long)|, answers % (window full)|, answers % (size or checksum)|, answers % (unused code)|, answers % (control frame with a packet)|, answers % (not the expected number)|, answers %",
         n,
         a,
         b,
@@ -102,7 +102,7 @@ pub const TIME: usize = 41;
 pub const END_LINE: usize = 42;
 
 // No words.
-pub const NOTHING: usize = 43;
+pub const NOTHING: usize = 54;
 
 // Writes the phrase, if its number is not 0.
 pub fn say_some(n: usize, number: u64) {
@@ -122,14 +122,15 @@ pub fn say_if(is_so: bool, n: usize) {
 
 // ---- answers
 
-// From here on an answer has no words.
-const WORDLESS: usize = answer::CHAIN_FAULT as usize;
+// What answers 0 to 9 are told as, in the order of their numbers, and behind them all others.
+const ANSWERS: usize = 43;
 
-// What a call answers, if it refuses; the words in the order of the answers' numbers.
+const OTHERS: usize = answer::CHAIN_FAULT as usize;
+
+// What a call answers, if it refuses.
 pub fn answer(answer: u8) {
-    lay::write_chosen(
-        b"|, answers % (a setting out of range)|, answers %|, answers % (link lost)|, answers % (packet empty or too long)|, answers % (window full)|, answers % (size or checksum)|, answers % (unused code)|, answers % (control frame with a packet)|, answers % (not the expected number)|, answers %",
-        least(answer as usize, WORDLESS),
+    say(
+        ANSWERS + least(answer as usize, OTHERS),
         answer as u64,
         0,
         0,

@@ -59,15 +59,14 @@ pub fn new(kind: usize, end: usize, number: u32) -> Move {
 
 // ---- what came of it
 
-// heard_at: where in the store the frame begins that arrived. sent_at, sent: where the frame begins that was sent, and its length; 0
-// where none was. delivered: how many bytes of a packet, which are those of the frame that arrived from byte 3 on. freed, dropped: how
-// many packets wait no more because they were acknowledged, and because of a reset. is_crowded: what was sent is lost, since 64 frames
-// are on their way already.
+// delivered_at, delivered: where in the store the packet begins that was delivered, in the frame that arrived, and its length; 0 where
+// none was. sent_at, sent: the same of the frame that was sent. freed, dropped: how many packets wait no more because they were
+// acknowledged, and because of a reset. is_crowded: what was sent is lost, since 64 frames are on their way already.
 pub struct Event {
-    pub heard_at: usize,
+    pub delivered_at: usize,
+    pub delivered: usize,
     pub sent_at: usize,
     pub sent: usize,
-    pub delivered: usize,
     pub answer: u8,
     pub freed: u8,
     pub dropped: u8,
@@ -82,10 +81,10 @@ pub struct Moved {
 // The ends after a move that is no call.
 fn without_event(p: Ends) -> Moved {
     let event = Event {
-        heard_at: 0,
+        delivered_at: 0,
+        delivered: 0,
         sent_at: 0,
         sent: 0,
-        delivered: 0,
         answer: DONE,
         freed: 0,
         dropped: 0,
@@ -122,6 +121,7 @@ fn freed(waited: u8, took: u8, o: Outcome) -> u8 {
     std::num::wrapping_sub_u8(known, std::num::wrapping_add_u8(o.state.waiting, o.dropped))
 }
 
+// A packet is delivered from byte 3 of a frame on, which lies behind its length.
 fn after(p: Ends, m: Move, o: Outcome, there: End, sent_at: usize) -> Moved {
     let here = end_of(p, m.end);
     let took = (m.kind == SUBMIT) & (o.answer == DONE);
@@ -133,10 +133,10 @@ fn after(p: Ends, m: Move, o: Outcome, there: End, sent_at: usize) -> Moved {
             after_sending(there, o.sent),
         ),
         event: Event {
-            heard_at: line::place_of(m.end, here.first, 0) + 2,
+            delivered_at: line::place_of(m.end, here.first, 0) + 5,
+            delivered: o.delivered as usize,
             sent_at,
             sent: o.sent as usize,
-            delivered: o.delivered as usize,
             answer: o.answer,
             freed: freed(here.link.waiting, took as u8, o),
             dropped: o.dropped,
