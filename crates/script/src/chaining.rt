@@ -1,6 +1,8 @@
 // The commands on one joining of messages: their words, their fields, what they do and what they print.
 // A later input goes last among its command's fields, and the number that are needed stays: absent means 0. A later output goes last
 // in its command's print function.
+use crate::printing;
+use crate::printing::from_flag;
 use crate::session;
 use crate::session::CHAINING;
 use crate::session::Command;
@@ -24,8 +26,6 @@ use text::field::flag_at;
 use text::field::number_at;
 use text::field::u16_at;
 use text::field::u32_at;
-use text::lay;
-use text::lay::from_flag;
 use text::least;
 
 // ---- words and fields
@@ -115,8 +115,8 @@ fn print_join(j: Joined, room: &[u8], is_worked: bool) {
         state.length as u64,
     ];
     match is_worked {
-        true => lay::say(b"% % % % %", &numbers),
-        false => lay::say_bytes(b"% % % % %", &numbers, room),
+        true => printing::say(b"% % % % %\n", &numbers),
+        false => printing::say_bytes(b"% % % % %", &numbers, room),
     }
 }
 
@@ -136,7 +136,7 @@ fn print_cut(p: Piece, packet: &[u8], size: usize, is_worked: bool) {
         true => p.length as usize,
         false => size,
     };
-    lay::say_bytes(b"% % %", &numbers, part(packet, 0, told));
+    printing::say_bytes(b"% % %", &numbers, part(packet, 0, told));
 }
 
 fn cut(v: Values, bytes: &[u8], packet: &mut [u8], is_worked: bool) {

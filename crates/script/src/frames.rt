@@ -1,4 +1,5 @@
 // The commands of worked lines only, on a frame's bytes: their words, their fields, what they do and what they print.
+use crate::printing;
 use crate::session;
 use crate::session::Command;
 use crate::session::FRAMES;
@@ -73,7 +74,7 @@ fn length_of(h: Heard) -> u64 {
 fn print_length(length: u64) {
     match length {
         0 => lay::write(b"\n"),
-        _ => lay::say(b", % bytes", &[length]),
+        _ => printing::say(b", % bytes\n", &[length]),
     }
 }
 

@@ -2,6 +2,7 @@
 mod chaining;
 mod frames;
 mod linking;
+mod printing;
 mod session;
 
 use base::buffer::part;
@@ -79,7 +80,7 @@ fn begin(line: &[u8], number: u64, c: Command, good: bool, is_worked: bool) {
             true => echo(line, c.is_call),
             false => {}
         },
-        false => lay::say(b"bad line %", &[number]),
+        false => printing::say(b"bad line %\n", &[number]),
     }
 }
 

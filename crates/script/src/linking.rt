@@ -1,6 +1,11 @@
 // The commands on one end of the link: their words, their fields, what they do and what they print.
 // A later input goes last among its command's fields, and the number that are needed stays: absent means 0. A later output goes last
 // in print, behind the frame.
+use crate::printing;
+use crate::printing::from_flag;
+use crate::printing::from_u8;
+use crate::printing::from_u16;
+use crate::printing::from_u32;
 use crate::session;
 use crate::session::BUFFER;
 use crate::session::Command;
@@ -28,11 +33,6 @@ use text::field::number_at;
 use text::field::u8_at;
 use text::field::u16_at;
 use text::field::u32_at;
-use text::lay;
-use text::lay::from_flag;
-use text::lay::from_u8;
-use text::lay::from_u16;
-use text::lay::from_u32;
 use text::least;
 
 // ---- words
@@ -231,17 +231,17 @@ fn numbers_of(o: Outcome) -> [u64; 22] {
 // All that a call leaves.
 fn print_all(o: Outcome, slots: &[u8], frame: &[u8]) {
     let head = b"% % % % % % % % % % % % % % % % % % % % % %";
-    lay::say_both(head, &numbers_of(o), slots, frame, b"", 0);
+    printing::say_both(head, &numbers_of(o), slots, frame, b"\n", 0);
 }
 
 // The delivered packet is the received frame's bytes from byte 3 on.
 fn print_worked(o: Outcome, bytes: &[u8], frame: &[u8]) {
-    lay::say_both(
+    printing::say_both(
         b"%",
         &[o.answer as u64],
         part(frame, 0, o.sent as usize),
         part(bytes, 3, o.delivered as usize),
-        b" %",
+        b" %\n",
         o.dropped as u64,
     );
 }

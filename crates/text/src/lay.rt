@@ -15,10 +15,8 @@ const BAR: u8 = 124;
 // Stands for a byte that is no printable character.
 const DOT: u8 = 46;
 
-// Longer than most lines, and than most lines with bytes, so that these are written at once.
+// Longer than most texts, so that these are written at once.
 const LINE: usize = 512;
-
-const LONG_LINE: usize = 8192;
 
 // ---- text
 
@@ -78,7 +76,7 @@ fn add_part(out: &mut [u8], at: usize, template: &[u8], i: usize, end: usize, nu
 }
 
 // Lays the template, each `%` of it as the next number in decimal digits.
-fn add_filled(out: &mut [u8], at: usize, template: &[u8], numbers: &[u64]) -> usize {
+pub fn add_filled(out: &mut [u8], at: usize, template: &[u8], numbers: &[u64]) -> usize {
     let mut next = at;
     let mut n: usize = 0;
     let mut i: usize = 0;
@@ -206,69 +204,9 @@ pub fn write_quoted(bytes: &[u8]) {
     }
 }
 
-// ---- lines
-
-// Ends the line and writes it.
-fn end_line(out: &mut [u8], at: usize) {
-    let end = add(out, at, b"\n");
-    write_out(out, end);
-}
+// ---- whole texts
 
 // Writes a text.
 pub fn write(text: &[u8]) {
     io::write_all(STDOUT_FILENO, text);
-}
-
-// Writes a line: the template, each `%` of it as the next number.
-pub fn say(template: &[u8], numbers: &[u64]) {
-    let mut line = [0u8; LINE];
-    let at = add_filled(&mut line, 0, template, numbers);
-    end_line(&mut line, at);
-}
-
-// Writes a line: the template with its numbers, and bytes in hexadecimal digits.
-pub fn say_bytes(template: &[u8], numbers: &[u64], bytes: &[u8]) {
-    let mut line = [0u8; LONG_LINE];
-    let mut at = add_filled(&mut line, 0, template, numbers);
-    at = add_hex(&mut line, at, bytes);
-    end_line(&mut line, at);
-}
-
-// Writes a line: the head with its numbers, bytes twice, and the tail with its number.
-pub fn say_both(
-    head: &[u8],
-    numbers: &[u64],
-    first: &[u8],
-    second: &[u8],
-    tail: &[u8],
-    number: u64,
-) {
-    let mut line = [0u8; LONG_LINE];
-    let mut at = add_filled(&mut line, 0, head, numbers);
-    at = add_hex(&mut line, at, first);
-    at = add_hex(&mut line, at, second);
-    at = add_filled(&mut line, at, tail, &[number]);
-    end_line(&mut line, at);
-}
-
-// ---- numbers of other widths, for a template
-
-// A u8 as a template's number.
-pub fn from_u8(n: u8) -> u64 {
-    n as u64
-}
-
-// A u16 as a template's number.
-pub fn from_u16(n: u16) -> u64 {
-    n as u64
-}
-
-// A u32 as a template's number.
-pub fn from_u32(n: u32) -> u64 {
-    n as u64
-}
-
-// 1 where it is set, else 0.
-pub fn from_flag(is_set: bool) -> u64 {
-    if is_set { 1 } else { 0 }
 }
