@@ -24,10 +24,10 @@ use Rattle.state.specs.Formed.{InRange, Formed}
 use Rattle.state.proofs.Facts.{wellFormed-facts, slotOf-lt, part-inside}
 use Rattle.state.proofs.Keeps.{marked-sound}
 use Rattle.send.specs.Repeat.{partOf, packetOf, again, mayRepeat}
-use Rattle.send.specs.Makers.{Sending, sends, silent, concluded, ackStopped, marked, sendsRepeat, sendsAck, sendsNak}
-use Rattle.send.proofs.Slots.{repeat-says}
+use Rattle.send.specs.Makers.{sends, silent, concluded, ackStopped, marked, sendsRepeat, sendsAck, sendsNak}
 use Rattle.send.proofs.Keeps.{again-sound, ackStopped-sound}
-use Rattle.pair.specs.System.{Side, System, sentBy, called, IsClock}
+use Rattle.pair.specs.System.{IsClock}
+use Rattle.pair.specs.TrueCalls.{Side, System, sentBy, called}
 use Rattle.pair.proofs.Line.{Idle, a-nak, line-data, line-ack, line-idle}
 use Rattle.pair.proofs.Invariant.{Way, Inv, set-timed, turned, restated, inv-turned, window-small}
 
@@ -188,5 +188,4 @@ concluded-repeat s S j ms frame q answer c r room I h may =
     let k : ℕ = sentBefore l j in
     let size : (1 ≤ length (repeatOf (S .here) j)) × (length (repeatOf (S .here) j) ≤ s .format .d) =
     repeat-size s (restated S l q .here) (S .there .taken) (I .freedHere) (I .gotHere) j r (I .here) h in
-    subst (λ (x : Sending). Inv s (called S (concluded x answer 0 (S .here .slots)) q [] [])) (sym (repeat-says l (S .here .slots) frame ms k))
-    (concluded-sent s S (again l k ms) (repeatOf (S .here) j) frame q answer (size .0) (omega (arith, size .1, room)) (inv-repeated s (restated S l q) j ms c r I h may))
+    concluded-sent s S (again l k ms) (repeatOf (S .here) j) frame q answer (size .0) (omega (arith, size .1, room)) (inv-repeated s (restated S l q) j ms c r I h may)

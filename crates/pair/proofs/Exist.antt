@@ -30,9 +30,10 @@ use Rattle.send.specs.Makers.{silent, concluded, sends, ackStopped, marked, sen
 use Rattle.receive.specs.Steps.{freed, repeatable, afterDelivery}
 use Rattle.receive.specs.Take.{obeyed, frameTaken}
 use Rattle.receive.proofs.Facts.{repeatable-holds, data-taken}
-use Rattle.pair.specs.System.{System, swap, sentBy, leftBy, takes, lookOf, looks, IsClock}
-use Rattle.pair.specs.Round.{Enough, dueAt, Carried, head, Carries, none, here, there, carriedIn, Looks, nothing, sends-on, Round, round, Rounds, begin, next}
+use Rattle.pair.specs.System.{swap, IsClock}
+use Rattle.pair.specs.Round.{dueAt, head, none, here, there, carriedIn, nothing, sends-on, round, begin, next}
 use Rattle.pair.specs.Demand3.{RoundsExist, CarryingEnds}
+use Rattle.pair.specs.TrueCalls.{trueCalls, System, sentBy, leftBy, takes, lookOf, looks, Enough, Carried, Carries, Looks, Round, Rounds}
 use Rattle.pair.proofs.Line.{Line, data-next, ack-next, idle-next, Idle, by-size, by-sum, a-nak}
 use Rattle.pair.proofs.Invariant.{Inv, inv-swap}
 use Rattle.pair.proofs.Calls.{heard-there, sent-frame, repeatOf, repeat-size, repeat-heard}
@@ -323,7 +324,7 @@ led s S ms (suc n) c r I =
     let a : ARound s (onward ms (k .total)) (k .end) = a-round s (k .end) (onward ms (k .total)) (onward-clock ms (k .total)) r (k .inv) in
     record { end = a .end; total = k .total + a .passed; rounds = next n (k .total) (a .passed) (k .end) (a .end) (k .rounds) (a .turn); inv = a .inv }
 
-unfoldable pub rounds-exist : RoundsExist
+unfoldable pub rounds-exist : RoundsExist trueCalls
 rounds-exist s S ms n m c =
     let k : Led s ms S n = led s S ms n c (moment-range s S m) (moment-kept s S m) in
     record { end = k .end; total = k .total; rounds = k .rounds }
@@ -339,6 +340,6 @@ carries-load s S U ms c r I (there S₁ T U₁ k rest) =
     let J : Inv s (swap S) = inv-swap s S I in
     omega (arith, carried-less s (swap S) (swap T) ms r J k, carries-load s T U ms c r (inv-swap s (swap T) (carried-falls s (swap S) (swap T) ms c r J k .inv)) rest)
 
-pub carrying-ends : CarryingEnds
+pub carrying-ends : CarryingEnds trueCalls
 carrying-ends s S T ms m c k =
     omega (arith, carries-load s S T ms c (moment-range s S m) (moment-kept s S m) k, load-most (s .format) (S .here .queue), load-most (s .format) (S .there .queue))

@@ -31,9 +31,10 @@ use Rattle.receive.specs.Steps.{repeatable}
 use Rattle.receive.specs.Take.{obeyed, frameTaken}
 use Rattle.receive.proofs.Facts.{freed-fewer, repeatable-holds, data-taken}
 use Rattle.clock.specs.Look.{lookedOpen, looked}
-use Rattle.pair.specs.System.{System, swap, deliveredBy, takes, lookOf, looks, IsClock}
-use Rattle.pair.specs.Round.{Enough, Carried, head, Carries, none, here, there, runs, dueAt, someRuns, someDue, Passes, stays, moves, Looks, nothing, sends-on, Round, round, other-first, Rounds, begin, next}
+use Rattle.pair.specs.System.{swap, IsClock}
+use Rattle.pair.specs.Round.{head, none, here, there, runs, dueAt, someRuns, someDue, Passes, stays, moves, nothing, sends-on, round, other-first, begin, next}
 use Rattle.pair.specs.Demand3.{Through, Alive, WithinRounds, Within24}
+use Rattle.pair.specs.TrueCalls.{trueCalls, System, deliveredBy, takes, lookOf, looks, Enough, Carried, Carries, Looks, Round, Rounds}
 use Rattle.pair.proofs.Line.{Line, data-next, ack-next, idle-next, Idle, by-size, by-sum, a-nak, line-taken, line-freed}
 use Rattle.pair.proofs.Invariant.{Inv, inv-swap, window-small}
 use Rattle.pair.proofs.Moves.{take-kept, look-kept, moment-range, moment-kept}
@@ -371,7 +372,7 @@ empty-through s S I e =
     }
 
 -- after 23 rounds, or more
-pub within-23 : WithinRounds 23
+pub within-23 : WithinRounds 23 trueCalls
 within-23 s S T ms n total m c h k alive =
     let r : InRange s = moment-range s S m in
     let I : Inv s S = moment-kept s S m in
@@ -381,5 +382,5 @@ within-23 s S T ms n total m c h k alive =
     go r I (inl e) = empty-through s T (rounds-fall s S T ms n total c r I k .inv) e
     go r I (inr w) = absurd (omega (arith, Φ-bound s S r I))
 
-pub within-24 : Within24
+pub within-24 : Within24 trueCalls
 within-24 s S T ms n total m c h k alive = within-23 s S T ms n total m c (omega arith) k alive

@@ -22,11 +22,12 @@ use Rattle.state.proofs.Facts.{wellFormed-facts, slotOf-lt, slotOf-small, slots
 use Rattle.state.proofs.Keeps.{changed, fresh-sound}
 use Rattle.send.specs.Repeat.{partOf, packetOf}
 use Rattle.send.specs.Submit.{sentFirst}
-use Rattle.send.proofs.Slots.{new-packet, old-packet, accepted-waits}
+use Rattle.send.proofs.Slots.{new-packet, old-packet}
 use Rattle.receive.specs.Steps.{freed, afterDelivery}
 use Rattle.receive.proofs.Keeps.{freed-sound, afterDelivery-sound}
-use Rattle.pair.specs.System.{queued, Side, System, swap, Harm, freshSide, IsClock}
+use Rattle.pair.specs.System.{queued, swap, Harm, IsClock}
 use Rattle.pair.specs.Demand3.{FirstSoManyOf}
+use Rattle.pair.specs.TrueCalls.{Side, System, freshSide}
 use Rattle.pair.proofs.Line.{Line, clear, line-taken, line-freed, line-mono, line-tail, line-harm, line-data, line-more}
 
 -- the start times are clock values
@@ -315,7 +316,7 @@ inv-added s S packet frame ms I c k lo hi place same m p =
         settings = I .here .settings;
         room = rw same (I .here .room);
         next = rw longer (omega (arith, I .here .next));
-        window = rw longer (omega (arith, I .here .window, accepted-waits (S .here .state) (S .here .slots) [] packet ms));
+        window = rw longer (omega (arith, I .here .window));
         expected = I .here .expected;
         count = I .here .count;
         first = I .here .first;

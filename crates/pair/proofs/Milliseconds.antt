@@ -13,9 +13,10 @@ use Rattle.state.specs.declared.Link.{Link}
 use Rattle.state.specs.Timer.{due, onward, packetDue, acknowledgeDue}
 use Rattle.state.specs.Formed.{InRange}
 use Rattle.clock.proofs.Facts.{due-waits}
-use Rattle.pair.specs.System.{System, swap, IsClock}
-use Rattle.pair.specs.Round.{runs, dueAt, someRuns, someDue, Passes, stays, moves, Round, round, other-first, Rounds, begin, next}
+use Rattle.pair.specs.System.{swap, IsClock}
+use Rattle.pair.specs.Round.{runs, dueAt, someRuns, someDue, Passes, stays, moves, round, other-first, begin, next}
 use Rattle.pair.specs.Demand3.{Alive, InMilliseconds}
+use Rattle.pair.specs.TrueCalls.{trueCalls, System, Round, Rounds}
 use Rattle.pair.proofs.Invariant.{Inv, inv-swap}
 use Rattle.pair.proofs.Moves.{moment-range, moment-kept}
 use Rattle.pair.proofs.Timers.{Soon, some-soon}
@@ -73,7 +74,7 @@ paid s S U ms n total c r I (next n₁ total₁ passed T U₁ rounds turn) alive
         more : Φ U + 1 ≤ Φ T → suc (Φ U) ≤ Φ T
         more q = omega arith
 
-pub in-milliseconds : InMilliseconds
+pub in-milliseconds : InMilliseconds trueCalls
 in-milliseconds s S T ms n total m c k alive =
     let r : InRange s = moment-range s S m in
     let I : Inv s S = moment-kept s S m in

@@ -22,7 +22,8 @@ use Rattle.state.specs.declared.Link.{Link}
 use Rattle.state.specs.declared.Outcome.{Outcome}
 use Rattle.state.specs.Fields.{withLost}
 use Rattle.state.specs.State.{lastCorrect, sentBefore}
-use Rattle.state.specs.Gate.{After, refused, gated, gateOf}
+use Rattle.state.specs.Gate.{After, refused, gated, entryOf, gateOf}
+use Rattle.state.specs.Calls.{resetSent, resynchronised}
 use Rattle.state.specs.Formed.{InRange, Formed, Open}
 use Rattle.state.proofs.Facts.{inRange-facts, wellFormed-facts, gateOf-facts, gated-cases}
 use Rattle.state.proofs.Keeps.{marked-sound}
@@ -37,8 +38,9 @@ use Rattle.receive.specs.Take.{obeyed, frameTaken}
 use Rattle.receive.proofs.Facts.{repeatable-holds, data-taken}
 use Rattle.clock.specs.Look.{afterOldest, exhausted, served, acknowledgedIf, lookedOpen, looked, acknowledgedNow}
 use Rattle.clock.proofs.Facts.{due-waits}
-use Rattle.pair.specs.System.{System, swap, sentBy, takenBy, deliveredBy, leftBy, called, submits, takes, looks, acknowledges, Harm, IsClock, Move, submit, take-head, look, acknowledge, harm, Moment, start, here, there}
+use Rattle.pair.specs.System.{swap, Harm, IsClock, submit, take-head, look, acknowledge, reset-refused, harm, start, here, there}
 use Rattle.pair.specs.Demand3.{FirstSoMany}
+use Rattle.pair.specs.TrueCalls.{trueCalls, System, sentBy, takenBy, deliveredBy, leftBy, called, submits, takes, looks, acknowledges, Move, Moment}
 use Rattle.pair.proofs.Line.{Line, data-next, ack-next, idle-next, Idle, by-size, by-sum, a-nak, line-taken, line-freed, line-mono}
 use Rattle.pair.proofs.Invariant.{Inv, inv-swap, restated, delivering, adding, inv-turned, inv-passed, inv-freed, inv-delivered, inv-added, inv-harm, inv-start, inv-first, window-small}
 use Rattle.pair.proofs.Calls.{heard-there, sent-frame, last-said, Before, concluded-silent, concluded-ack, concluded-nothing, concluded-nak, concluded-repeat}
@@ -253,6 +255,20 @@ unfolding acknowledgedNow
 acknowledge-kept s S frame r I =
     open-kept s S frame (acknowledgedIf (S .here .state .acking) (S .here .state) (S .here .slots) frame) I (λ room. acknowledged-kept s S frame (S .here .state .acking) r room I)
 
+-- a resynchronise that is refused
+reset-kept : (s : Settings) (S : System) (frame : List ℕ) → (resynchronised (S .here .state) (S .here .slots) frame .told .answer ≡ done → ⊥) → Inv s S
+    → Inv s (called S (resynchronised (S .here .state) (S .here .slots) frame) (S .here .queue) [] [])
+unfolding resynchronised
+reset-kept s S frame n I =
+    gated-cases (λ (a : After Outcome). (a .told .answer ≡ done → ⊥) → Inv s (called S a (S .here .queue) [] [])) g l (S .here .slots) frame (resetSent l (S .here .slots) frame)
+    (λ q no. absurd (no refl)) (λ q no. concluded-nothing s S frame (S .here .queue) g I) n
+  where
+    l : Link
+    l = S .here .state
+
+    g : ℕ
+    g = entryOf l (length (S .here .slots)) (length frame)
+
 -- ---- every move, every moment
 
 pub move-kept : (s : Settings) (S T : System) → InRange s → Move S T → Inv s S → Inv s T
@@ -260,6 +276,7 @@ move-kept s S T r (submit frame packet ms c) I = submit-kept s S frame packet ms
 move-kept s S T r (take-head frame received rest ms c e) I = take-kept s S frame received rest ms c r e I
 move-kept s S T r (look frame ms c) I = look-kept s S frame ms c r I
 move-kept s S T r (acknowledge frame) I = acknowledge-kept s S frame r I
+move-kept s S T r (reset-refused frame n) I = reset-kept s S frame n I
 move-kept s S T r (harm queue k) I = inv-harm s S queue (subst (λ (x : Settings). Harm (x .format) (S .here .queue) queue) (I .here .settings) k) I
 
 -- a moment's settings are in range
@@ -273,5 +290,5 @@ moment-kept s S (start slots slots2 r h k) = inv-start s slots slots2 (inRange-f
 moment-kept s T (here S T₁ m v) = move-kept s S T (moment-range s S m) v (moment-kept s S m)
 moment-kept s T (there S T₁ m v) = inv-swap s (swap T) (move-kept s (swap S) (swap T) (moment-range s S m) v (inv-swap s S (moment-kept s S m)))
 
-pub first-so-many : FirstSoMany
+pub first-so-many : FirstSoMany trueCalls
 first-so-many s S m = inv-first s S (moment-kept s S m)

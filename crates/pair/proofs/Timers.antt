@@ -12,8 +12,9 @@ use Rattle.state.specs.State.{sentBefore, startOf}
 use Rattle.state.specs.Timer.{left, due, onward, packetDue, acknowledgeDue}
 use Rattle.state.specs.Formed.{InRange}
 use Rattle.state.proofs.Facts.{left-due}
-use Rattle.pair.specs.System.{System, IsClock}
+use Rattle.pair.specs.System.{IsClock}
 use Rattle.pair.specs.Round.{runs, dueAt, someRuns, someDue, Passes, stays, moves}
+use Rattle.pair.specs.TrueCalls.{System}
 use Rattle.pair.proofs.Invariant.{Timed, Inv}
 
 -- ---- the least number at which a test holds

@@ -1,5 +1,5 @@
 -- The run of specs/Run.antt, computed. Assumes nothing.
-use mathlib.Core.Path.{refl}
+use mathlib.Core.Path.{_≡_, refl, sym, _∙_}
 use mathlib.Core.List.{[], _∷_}
 use mathlib.Core.Logic.{inl}
 use native.Mathlib.Omega.{arith}
@@ -11,7 +11,8 @@ use Rattle.state.specs.State.{freshOf}
 use Rattle.send.specs.Submit.{submitted}
 use Rattle.receive.specs.Take.{frameTaken}
 use Rattle.clock.specs.Look.{looked}
-use Rattle.pair.specs.System.{lost, damaged, submit, take-head, harm, Moment, start, here, there}
+use Rattle.pair.specs.System.{lost, damaged, submit, take-head, harm, start, here, there}
+use Rattle.pair.specs.TrueCalls.{Played, Moment}
 use Rattle.pair.specs.Run.{settings, buffer, slots, loanA, loanB, moment0, moment1, moment2, moment3, moment4, moment5, moment6, WorkedRun}
 use Rattle.pair.proofs.Timers.{moved, some-soon, end-soon, least, search-from}
 use Rattle.pair.proofs.Exist.{rounds-exist, led, a-round, emptied, emptied-by, stepped, watched, watched-by, blank}
@@ -27,13 +28,22 @@ reached =
     let m5 : Moment settings moment5 = here moment4 moment5 m4 (harm ((0xFF ∷ []) ∷ []) (damaged (ackFrame (settings .format) 3) (0xFF ∷ []) [] (inl refl))) in
     here moment5 moment6 m5 (take-head buffer (0xFF ∷ []) [] 4294967279 (omega arith) refl)
 
+rounds : Played 4294967290 moment6 24
+rounds = rounds-exist settings moment6 4294967290 24 reached (omega arith)
+
 pub worked : WorkedRun
-unfolding submitted frameTaken looked freshOf put frameOf checksumOf inRange rounds-exist led a-round emptied emptied-by stepped watched watched-by moved some-soon end-soon least search-from blank
-worked = record {
-  moment = reached;
-  nak = refl;
-  played = rounds-exist settings moment6 4294967290 4 reached (omega arith);
-  total = refl;
-  delivered = refl;
-  window = refl;
-}
+unfolding rounds submitted frameTaken looked freshOf put frameOf checksumOf inRange rounds-exist led a-round emptied emptied-by stepped watched watched-by moved some-soon end-soon least search-from blank
+worked =
+    let got : rounds .end .there .delivered ≡ loanA ∷ loanB ∷ [] = refl in
+    let had : rounds .end .here .taken ≡ loanA ∷ loanB ∷ [] = refl in
+    let got2 : rounds .end .here .delivered ≡ [] = refl in
+    let had2 : rounds .end .there .taken ≡ [] = refl in
+    record {
+      moment = reached;
+      nak = refl;
+      played = rounds;
+      total = refl;
+      alive = record { here = refl; there = refl };
+      through = record { forth = got ∙ sym had; back = got2 ∙ sym had2; window-here = refl; window-there = refl };
+      delivered = got;
+    }

@@ -10,28 +10,28 @@ use lib.Dec.{ltb}
 use Rattle.state.specs.declared.Link.{Link}
 use Rattle.state.specs.Bounds.{frameNeed}
 use Rattle.state.specs.Timer.{onward, packetDue, acknowledgeDue}
-use Rattle.pair.specs.System.{System, swap, takes, lookOf, looks}
+use Rattle.pair.specs.System.{Calls, System, swap, seenBoth, takes, lookOf, looks}
 
 -- "every lent buffer long enough": the slots are, from the start
-abbrev pub Enough : System → List ℕ → Type 0
-Enough S frame = frameNeed (S .here .state .settings) ≤ length frame
+abbrev pub Enough : {State : Type 0} → Calls State → System State → List ℕ → Type 0
+Enough calls S frame = frameNeed (calls .seen (S .here .state) .settings) ≤ length frame
 
 -- "carry frames, the two queues in any mixture"
-pub data Carried (ms : ℕ) (S : System) : System → Type 0 where
-  head : (frame received : List ℕ) (rest : List (List ℕ)) → Enough S frame → S .here .queue ≡ received ∷ rest → Carried ms S (takes S frame ms received rest)
+pub data Carried {State : Type 0} (calls : Calls State) (ms : ℕ) (S : System State) : System State → Type 0 where
+  head : (frame received : List ℕ) (rest : List (List ℕ)) → Enough calls S frame → S .here .queue ≡ received ∷ rest → Carried calls ms S (takes calls S frame ms received rest)
 
-pub data Carries (ms : ℕ) : System → System → Type 0 where
-  none : (S : System) → Carries ms S S
-  here : (S T U : System) → Carried ms S T → Carries ms T U → Carries ms S U
-  there : (S T U : System) → Carried ms (swap S) (swap T) → Carries ms T U → Carries ms S U
+pub data Carries {State : Type 0} (calls : Calls State) (ms : ℕ) : System State → System State → Type 0 where
+  none : (S : System State) → Carries calls ms S S
+  here : (S T U : System State) → Carried calls ms S T → Carries calls ms T U → Carries calls ms S U
+  there : (S T U : System State) → Carried calls ms (swap S) (swap T) → Carries calls ms T U → Carries calls ms S U
 
 -- for CarryingEnds: how many frames were carried
-abbrev pub carriedIn : {ms : ℕ} {S T : System} → Carries ms S T → ℕ
+abbrev pub carriedIn : {State : Type 0} {calls : Calls State} {ms : ℕ} {S T : System State} → Carries calls ms S T → ℕ
 carriedIn (none S) = 0
 carriedIn (here S T U k rest) = suc (carriedIn rest)
 carriedIn (there S T U k rest) = suc (carriedIn rest)
 
--- ---- the clock
+-- ---- the clock: it goes by document 01's timers, as the states are seen, whatever the link itself does
 
 -- a packet's timer runs while it waits. A lost end's timers count too, and once one is due the clock stays: what is said of rounds asks that no
 -- link be lost.
@@ -41,34 +41,33 @@ runs l = ltb 0 (l .waiting) || l .acking
 abbrev pub dueAt : Link → ℕ → Bool
 dueAt l ms = packetDue l 0 ms || packetDue l 1 ms || acknowledgeDue l ms
 
-abbrev pub someRuns : System → Bool
+abbrev pub someRuns : System Link → Bool
 someRuns S = runs (S .here .state) || runs (S .there .state)
 
-abbrev pub someDue : System → ℕ → Bool
+abbrev pub someDue : System Link → ℕ → Bool
 someDue S ms = dueAt (S .here .state) ms || dueAt (S .there .state) ms
 
 -- how far the clock is moved: to the first moment at which a timer is due, which is now if one is due now
-pub data Passes (S : System) (ms : ℕ) : ℕ → Type 0 where
+pub data Passes (S : System Link) (ms : ℕ) : ℕ → Type 0 where
   stays : someRuns S ≡ false → Passes S ms 0
   moves : (passed : ℕ) → someDue S (onward ms passed) ≡ true → ((k : ℕ) → k < passed → someDue S (onward ms k) ≡ false) → Passes S ms passed
 
 -- ---- looking
 
 -- "look at the clock at each end until it sends nothing"
-pub data Looks (ms : ℕ) : System → System → Type 0 where
-  nothing : (S : System) (frame : List ℕ) → Enough S frame → lookOf S frame ms .told .sent ≡ 0 → Looks ms S (looks S frame ms)
-  sends-on : (S T : System) (frame : List ℕ) → Enough S frame → (lookOf S frame ms .told .sent ≡ 0 → ⊥) → Looks ms (looks S frame ms) T → Looks ms S T
+pub data Looks {State : Type 0} (calls : Calls State) (ms : ℕ) : System State → System State → Type 0 where
+  nothing : (S : System State) (frame : List ℕ) → Enough calls S frame → lookOf calls S frame ms .told .sent ≡ 0 → Looks calls ms S (looks calls S frame ms)
+  sends-on : (S T : System State) (frame : List ℕ) → Enough calls S frame → (lookOf calls S frame ms .told .sent ≡ 0 → ⊥) → Looks calls ms (looks calls S frame ms) T → Looks calls ms S T
 
 -- ---- rounds
 
--- one round from a clock on, and by how many milliseconds it moves the clock; either end may be the first to be looked at.
--- Looks that take turns would leave the same, since a look reads no queue and changes nothing of the other end but the queue towards it.
-pub data Round (ms : ℕ) : System → ℕ → System → Type 0 where
-  round : (S T U W : System) (passed : ℕ) → Carries ms S T → T .here .queue ≡ [] → T .there .queue ≡ [] → Passes T ms passed
-      → Looks (onward ms passed) T U → Looks (onward ms passed) (swap U) (swap W) → Round ms S passed W
-  other-first : (S W : System) (passed : ℕ) → Round ms (swap S) passed (swap W) → Round ms S passed W
+-- one round from a clock on, and by how many milliseconds it moves the clock; either end may be the first to be looked at
+pub data Round {State : Type 0} (calls : Calls State) (ms : ℕ) : System State → ℕ → System State → Type 0 where
+  round : (S T U W : System State) (passed : ℕ) → Carries calls ms S T → T .here .queue ≡ [] → T .there .queue ≡ [] → Passes (seenBoth calls T) ms passed
+      → Looks calls (onward ms passed) T U → Looks calls (onward ms passed) (swap U) (swap W) → Round calls ms S passed W
+  other-first : (S W : System State) (passed : ℕ) → Round calls ms (swap S) passed (swap W) → Round calls ms S passed W
 
 -- so many rounds, and by how many milliseconds they move the clock in all
-pub data Rounds (ms : ℕ) (S : System) : ℕ → ℕ → System → Type 0 where
-  begin : Rounds ms S 0 0 S
-  next : (n total passed : ℕ) (T U : System) → Rounds ms S n total T → Round (onward ms total) T passed U → Rounds ms S (suc n) (total + passed) U
+pub data Rounds {State : Type 0} (calls : Calls State) (ms : ℕ) (S : System State) : ℕ → ℕ → System State → Type 0 where
+  begin : Rounds calls ms S 0 0 S
+  next : (n total passed : ℕ) (T U : System State) → Rounds calls ms S n total T → Round calls (onward ms total) T passed U → Rounds calls ms S (suc n) (total + passed) U

@@ -5,8 +5,9 @@ use mathlib.Core.List.{List, [], _∷_}
 use mathlib.Core.Path.{_≡_}
 use Rattle.frame.specs.Bytes.{nakFrame, dataFrame}
 use Rattle.state.specs.declared.Settings.{Settings}
-use Rattle.pair.specs.System.{System, swap, submits, takes, withQueue, freshSide, Moment}
-use Rattle.pair.specs.Demand3.{Played}
+use Rattle.pair.specs.System.{swap, withQueue}
+use Rattle.pair.specs.Demand3.{Through, Alive}
+use Rattle.pair.specs.TrueCalls.{System, submits, takes, freshSide, Moment, Played}
 
 abbrev pub settings : Settings
 settings = record { format = record { d = 16 }; transtimeout = 100; acktimeout = 50; window = 2; repeats = 2 }
@@ -48,11 +49,13 @@ moment5 = withQueue moment4 ((0xFF ∷ []) ∷ [])
 abbrev pub moment6 : System
 moment6 = takes moment5 buffer 4294967279 (0xFF ∷ []) []
 
--- it is such a moment as the statements speak of, and from clock 4,294,967,290 on four rounds bring both loans through in 136 ms
+-- it is such a moment as the statements speak of, and all that Within24 asks is there: from clock 4,294,967,290 on 24 rounds are played, 136 ms in
+-- all, and no link is lost. Both loans are through.
 pub record WorkedRun : Type 0 where
   pub moment : Moment settings moment6
   pub nak : moment6 .there .queue ≡ nakFrame (settings .format) 0 ∷ []
-  pub played : Played 4294967290 moment6 4
+  pub played : Played 4294967290 moment6 24
   pub total : played .total ≡ 136
+  pub alive : Alive (played .end)
+  pub through : Through (played .end)
   pub delivered : played .end .there .delivered ≡ loanA ∷ loanB ∷ []
-  pub window : played .end .here .state .waiting ≡ 0

@@ -1,4 +1,5 @@
--- Two ends and two queues, for demand 3, the customer's third demand. What is quoted after `demand 3:` is in its words and not in document 01's.
+-- Two ends of any link and two queues, for demand 3, the customer's third demand. What is quoted after `demand 3:` is in its words and not in
+-- document 01's.
 -- demand 3: "Start two ends fresh with equal settings. Join them by a queue each way that is empty at first, keeps order, and may lose a frame or
 -- damage it so that its size or checksum is refused."
 use Prim.Native.Nat.{ℕ, _<_, _≤_}
@@ -14,50 +15,72 @@ use Rattle.frame.specs.declared.Heard.the-variants.{Size, Sum}
 use Rattle.frame.specs.Steps.{heard, packetIn}
 use Rattle.state.specs.declared.Settings.{Settings}
 use Rattle.state.specs.declared.Link.{Link}
-use Rattle.state.specs.declared.Outcome.{Outcome}
 use Rattle.state.specs.Bounds.{inRange, slotsNeed}
-use Rattle.state.specs.State.{freshOf}
-use Rattle.state.specs.Gate.{After, after}
-use Rattle.send.specs.Submit.{submitted}
-use Rattle.receive.specs.Take.{frameTaken}
-use Rattle.clock.specs.declared.Looked.{Looked}
-use Rattle.clock.specs.Look.{looked, acknowledgedNow}
+use Rattle.state.specs.Gate.{After}
+
+-- ---- a link
+
+-- what a call tells that a history is read off: the next state, the lengths of the frame sent and of the packet delivered, and the answer
+pub record Told (State : Type 0) : Type 0 where
+  pub state : State
+  pub sent : ℕ
+  pub delivered : ℕ
+  pub answer : ℕ
+
+-- a link: states of any type, and each seen as document 01's; the state that start gives with answer 0; and the calls, each of a state, the
+-- slots, the frame buffer, and what else it is given. The demand is said of any such link: of the one that the contracts are about
+-- (TrueCalls.antt) it is proved, of wrong ones (FalseCalls.antt) it is refuted.
+pub record Calls (State : Type 0) : Type 0 where
+  pub seen : State → Link
+  pub fresh : Settings → State
+  pub submit : State → List ℕ → List ℕ → ℕ → List ℕ → After (Told State)
+  pub take : State → List ℕ → List ℕ → ℕ → List ℕ → After (Told State)
+  pub look : State → List ℕ → List ℕ → ℕ → After (Told State)
+  pub acknowledge : State → List ℕ → List ℕ → After (Told State)
+  pub resynchronise : State → List ℕ → List ℕ → After (Told State)
 
 -- ---- what there is
 
 -- an end, the queue towards it, the first to arrive first, and what its calls have told: the packets that submit took there, and those that
 -- take delivered there, in order
-pub record Side : Type 0 where
-  pub state : Link
+pub record Side (State : Type 0) : Type 0 where
+  pub state : State
   pub slots : List ℕ
   pub queue : List (List ℕ)
   pub taken : List (List ℕ)
   pub delivered : List (List ℕ)
 
-pub record System : Type 0 where
-  pub here : Side
-  pub there : Side
+pub record System (State : Type 0) : Type 0 where
+  pub here : Side State
+  pub there : Side State
 
 -- the same two ends, looked at from the other one
-abbrev pub swap : System → System
+abbrev pub swap : {State : Type 0} → System State → System State
 swap S = record { here = S .there; there = S .here }
+
+-- the same two ends, their states seen as document 01's
+abbrev pub seenSide : {State : Type 0} → Calls State → Side State → Side Link
+seenSide calls x = record { state = calls .seen (x .state); slots = x .slots; queue = x .queue; taken = x .taken; delivered = x .delivered }
+
+abbrev pub seenBoth : {State : Type 0} → Calls State → System State → System Link
+seenBoth calls S = record { here = seenSide calls (S .here); there = seenSide calls (S .there) }
 
 -- ---- a call of the end here
 
 -- the frame that it sent: as many bytes of the frame buffer as it tells
-abbrev pub sentBy : After Outcome → List (List ℕ)
+abbrev pub sentBy : {State : Type 0} → After (Told State) → List (List ℕ)
 sentBy a = cond (eqb (a .told .sent) 0) [] (take (a .told .sent) (a .frame) ∷ [])
 
 -- the packet that it delivered: as many bytes of the received frame, from byte 3 on, as it tells
-abbrev pub deliveredBy : After Outcome → List ℕ → List (List ℕ)
+abbrev pub deliveredBy : {State : Type 0} → After (Told State) → List ℕ → List (List ℕ)
 deliveredBy a received = cond (eqb (a .told .delivered) 0) [] (packetIn received (a .told .delivered) ∷ [])
 
 -- the packet that submit took: it answered 0
-abbrev pub takenBy : After Outcome → List ℕ → List (List ℕ)
+abbrev pub takenBy : {State : Type 0} → After (Told State) → List ℕ → List (List ℕ)
 takenBy a packet = cond (eqb (a .told .answer) done) (packet ∷ []) []
 
 -- what is left of the queue. Our choice, no rule: who lent too short a buffer (answer 2) hands the frame over again; any other answer uses it up.
-abbrev pub leftBy : After Outcome → List ℕ → List (List ℕ) → List (List ℕ)
+abbrev pub leftBy : {State : Type 0} → After (Told State) → List ℕ → List (List ℕ) → List (List ℕ)
 leftBy a received rest = cond (eqb (a .told .answer) shortBuffer) (received ∷ rest) rest
 
 -- demand 3: "keeps order": what is sent goes behind what is on its way
@@ -66,7 +89,7 @@ queued queue sent = queue ++ sent
 
 -- demand 3: "each call gets the state the last one left and the same slots, in which only the link writes": the system after the call, with its
 -- queue and with what it took and delivered
-abbrev pub called : System → After Outcome → List (List ℕ) → List (List ℕ) → List (List ℕ) → System
+abbrev pub called : {State : Type 0} → System State → After (Told State) → List (List ℕ) → List (List ℕ) → List (List ℕ) → System State
 called S a queue taken delivered = record {
   here = record {
     state = a .told .state;
@@ -84,26 +107,31 @@ called S a queue taken delivered = record {
   };
 }
 
-abbrev pub submits : System → List ℕ → ℕ → List ℕ → System
-submits S frame ms packet =
-    let a : After Outcome = submitted (S .here .state) (S .here .slots) frame ms packet in
+abbrev pub submits : {State : Type 0} → Calls State → System State → List ℕ → ℕ → List ℕ → System State
+submits {State} calls S frame ms packet =
+    let a : After (Told State) = calls .submit (S .here .state) (S .here .slots) frame ms packet in
     called S a (S .here .queue) (takenBy a packet) []
 
-abbrev pub takes : System → List ℕ → ℕ → List ℕ → List (List ℕ) → System
-takes S frame ms received rest =
-    let a : After Outcome = frameTaken (S .here .state) (S .here .slots) frame ms received in
+abbrev pub takes : {State : Type 0} → Calls State → System State → List ℕ → ℕ → List ℕ → List (List ℕ) → System State
+takes {State} calls S frame ms received rest =
+    let a : After (Told State) = calls .take (S .here .state) (S .here .slots) frame ms received in
     called S a (leftBy a received rest) [] (deliveredBy a received)
 
-abbrev pub lookOf : System → List ℕ → ℕ → After Outcome
-lookOf S frame ms =
-    let a : After Looked = looked (S .here .state) (S .here .slots) frame ms in
-    after (a .told .outcome) (a .slots) (a .frame)
+-- a call that takes and delivers nothing
+abbrev pub turns : {State : Type 0} → System State → After (Told State) → System State
+turns S a = called S a (S .here .queue) [] []
 
-abbrev pub looks : System → List ℕ → ℕ → System
-looks S frame ms = called S (lookOf S frame ms) (S .here .queue) [] []
+abbrev pub lookOf : {State : Type 0} → Calls State → System State → List ℕ → ℕ → After (Told State)
+lookOf calls S frame ms = calls .look (S .here .state) (S .here .slots) frame ms
 
-abbrev pub acknowledges : System → List ℕ → System
-acknowledges S frame = called S (acknowledgedNow (S .here .state) (S .here .slots) frame) (S .here .queue) [] []
+abbrev pub looks : {State : Type 0} → Calls State → System State → List ℕ → ℕ → System State
+looks calls S frame ms = turns S (lookOf calls S frame ms)
+
+abbrev pub acknowledges : {State : Type 0} → Calls State → System State → List ℕ → System State
+acknowledges calls S frame = turns S (calls .acknowledge (S .here .state) (S .here .slots) frame)
+
+abbrev pub resetOf : {State : Type 0} → Calls State → System State → List ℕ → After (Told State)
+resetOf calls S frame = calls .resynchronise (S .here .state) (S .here .slots) frame
 
 -- ---- the line
 
@@ -113,7 +141,7 @@ pub data Harm (format : Format) : List (List ℕ) → List (List ℕ) → Type 0
   damaged : (x y : List ℕ) (q : List (List ℕ)) → (heard format y ≡ Size) ⊎ (heard format y ≡ Sum) → Harm format (x ∷ q) (y ∷ q)
   later : (x : List ℕ) (q r : List (List ℕ)) → Harm format q r → Harm format (x ∷ q) (x ∷ r)
 
-abbrev pub withQueue : System → List (List ℕ) → System
+abbrev pub withQueue : {State : Type 0} → System State → List (List ℕ) → System State
 withQueue S queue = record {
   here = record {
     state = S .here .state;
@@ -125,29 +153,32 @@ withQueue S queue = record {
   there = S .there;
 }
 
--- ---- moves: resynchronise is none, for a resynchronised end is fresh and begins a new stretch, and the demand speaks of two ends started fresh
+-- ---- moves
 
 -- "the present millisecond as a 32-bit number"
 abbrev pub IsClock : ℕ → Type 0
 IsClock ms = ms < 4294967296
 
--- one move of the end here or of the queue towards it, with any millisecond and a frame buffer of any bytes and any length
-pub data Move (S : System) : System → Type 0 where
-  submit : (frame packet : List ℕ) (ms : ℕ) → IsClock ms → Move S (submits S frame ms packet)
-  take-head : (frame received : List ℕ) (rest : List (List ℕ)) (ms : ℕ) → IsClock ms → S .here .queue ≡ received ∷ rest → Move S (takes S frame ms received rest)
-  look : (frame : List ℕ) (ms : ℕ) → IsClock ms → Move S (looks S frame ms)
-  acknowledge : (frame : List ℕ) → Move S (acknowledges S frame)
-  harm : (queue : List (List ℕ)) → Harm (S .here .state .settings .format) (S .here .queue) queue → Move S (withQueue S queue)
+-- one move of the end here or of the queue towards it, with any millisecond and a frame buffer of any bytes and any length. A resynchronise that
+-- is refused is one; one that is done is none, for the end is then fresh and begins a new stretch, and the demand speaks of two ends started
+-- fresh.
+pub data Move {State : Type 0} (calls : Calls State) (S : System State) : System State → Type 0 where
+  submit : (frame packet : List ℕ) (ms : ℕ) → IsClock ms → Move calls S (submits calls S frame ms packet)
+  take-head : (frame received : List ℕ) (rest : List (List ℕ)) (ms : ℕ) → IsClock ms → S .here .queue ≡ received ∷ rest → Move calls S (takes calls S frame ms received rest)
+  look : (frame : List ℕ) (ms : ℕ) → IsClock ms → Move calls S (looks calls S frame ms)
+  acknowledge : (frame : List ℕ) → Move calls S (acknowledges calls S frame)
+  reset-refused : (frame : List ℕ) → (resetOf calls S frame .told .answer ≡ done → ⊥) → Move calls S (turns S (resetOf calls S frame))
+  harm : (queue : List (List ℕ)) → Harm (calls .seen (S .here .state) .settings .format) (S .here .queue) queue → Move calls S (withQueue S queue)
 
 -- ---- moments
 
--- an end as start gives it with answer 0 (`started`, state), the queue towards it empty
-abbrev pub freshSide : Settings → List ℕ → Side
-freshSide s slots = record { state = freshOf s; slots = slots; queue = []; taken = []; delivered = [] }
+-- an end as start gives it with answer 0, the queue towards it empty
+abbrev pub freshSide : {State : Type 0} → Calls State → Settings → List ℕ → Side State
+freshSide calls s slots = record { state = calls .fresh s; slots = slots; queue = []; taken = []; delivered = [] }
 
 -- demand 3: "From any such moment": two ends started fresh with equal settings and slots of any bytes, and any moves at either end since
-pub data Moment (s : Settings) : System → Type 0 where
+pub data Moment {State : Type 0} (calls : Calls State) (s : Settings) : System State → Type 0 where
   start : (slots slots2 : List ℕ) → inRange s ≡ true → slotsNeed s ≤ length slots → slotsNeed s ≤ length slots2
-      → Moment s (record { here = freshSide s slots; there = freshSide s slots2 })
-  here : (S T : System) → Moment s S → Move S T → Moment s T
-  there : (S T : System) → Moment s S → Move (swap S) (swap T) → Moment s T
+      → Moment calls s (record { here = freshSide calls s slots; there = freshSide calls s slots2 })
+  here : (S T : System State) → Moment calls s S → Move calls S T → Moment calls s T
+  there : (S T : System State) → Moment calls s S → Move calls (swap S) (swap T) → Moment calls s T
