@@ -1,18 +1,19 @@
 -- The promises of specs/Promises.antt. Assumes nothing.
-use mathlib.Core.Path.{refl, sym, ap, _∙_}
+use mathlib.Core.Path.{_≡_, refl, sym, ap, _∙_}
 use mathlib.Core.List.{List}
 use Prim.Native.Nat.{ℕ}
 use native.Mathlib.Omega.{arith}
 use lib.ListN.{length}
+use Rattle.base.specs.Answer.{done}
 use Rattle.frame.specs.Bytes.{ackFrame}
 use Rattle.frame.proofs.Hearing.{ack-heard}
 use Rattle.state.specs.declared.Settings.{Settings}
 use Rattle.state.specs.declared.Outcome.{Outcome}
 use Rattle.state.specs.State.{freshOf}
-use Rattle.state.specs.Gate.{After}
-use Rattle.state.specs.Calls.{resynchronised}
+use Rattle.state.specs.Gate.{After, refused, entryOf}
+use Rattle.state.specs.Calls.{resetSent, resynchronised}
 use Rattle.state.specs.Formed.{InRange}
-use Rattle.state.proofs.Facts.{inRange-facts}
+use Rattle.state.proofs.Facts.{inRange-facts, gated-cases}
 use Rattle.state.proofs.Keeps.{fresh-sound, sound-open, started-sound, resynchronised-sound}
 use Rattle.send.specs.Submit.{submitted}
 use Rattle.send.proofs.Keeps.{submitted-sound}
@@ -21,7 +22,7 @@ use Rattle.receive.proofs.Facts.{frameTaken-open}
 use Rattle.receive.proofs.Keeps.{frameTaken-sound}
 use Rattle.clock.specs.Look.{looked, acknowledgedNow}
 use Rattle.clock.proofs.Keeps.{looked-sound, acknowledgedNow-sound}
-use Rattle.link.specs.Promises.{OneOutcome, Settled, ZeroRefused, AckThree, Kept}
+use Rattle.link.specs.Promises.{OneOutcome, Settled, ZeroRefused, AckThree, Kept, ResetRefused}
 
 one : {R : Type 0} (slots : List ℕ) (whole : After R) → OneOutcome slots whole
 one {R} slots whole told other written otherWritten p q =
@@ -71,3 +72,9 @@ kept =
       acknowledge = acknowledgedNow-sound;
       resynchronise = resynchronised-sound;
     }
+
+pub reset-refused : ResetRefused
+unfolding resynchronised
+reset-refused l slots frame n =
+    gated-cases (λ (a : After Outcome). (a .told .answer ≡ done → ⊥) → a ≡ refused l (a .told .answer) slots frame) (entryOf l (length slots) (length frame)) l slots frame (resetSent l slots frame)
+    (λ q k. absurd (k refl)) (λ q k. refl) n

@@ -66,3 +66,9 @@ pub record Kept : Type 0 where
   pub look : (l : Link) (slots frame : List ℕ) (ms : ℕ) → Sound l → Sound (looked l slots frame ms .told .outcome .state)
   pub acknowledge : (l : Link) (slots frame : List ℕ) → Sound l → Sound (acknowledgedNow l slots frame .told .state)
   pub resynchronise : (l : Link) (slots frame : List ℕ) → Sound l → Sound (resynchronised l slots frame .told .state)
+
+-- A resynchronise that is refused, with 1 or 2, changes nothing; so it is a move in the histories of two ends (pair), like every other call.
+abbrev pub ResetRefused : Type 0
+ResetRefused =
+    (l : Link) (slots frame : List ℕ) → (resynchronised l slots frame .told .answer ≡ done → ⊥)
+    → resynchronised l slots frame ≡ refused l (resynchronised l slots frame .told .answer) slots frame

@@ -32,15 +32,15 @@ use Rattle.receive.specs.Take.{obeyed, frameTaken}
 use Rattle.receive.proofs.Facts.{repeatable-holds, data-taken}
 use Rattle.pair.specs.System.{swap, IsClock}
 use Rattle.pair.specs.Round.{dueAt, head, none, here, there, carriedIn, nothing, sends-on, round, begin, next}
-use Rattle.pair.specs.Demand3.{RoundsExist, CarryingEnds}
+use Rattle.pair.specs.Demand3.{RoundsExist, Demand3, CarryingEnds}
 use Rattle.pair.specs.TrueCalls.{trueCalls, System, sentBy, leftBy, takes, lookOf, looks, Enough, Carried, Carries, Looks, Round, Rounds}
 use Rattle.pair.proofs.Line.{Line, data-next, ack-next, idle-next, Idle, by-size, by-sum, a-nak}
 use Rattle.pair.proofs.Invariant.{Inv, inv-swap}
 use Rattle.pair.proofs.Calls.{heard-there, sent-frame, repeatOf, repeat-size, repeat-heard}
-use Rattle.pair.proofs.Moves.{moment-range, moment-kept}
+use Rattle.pair.proofs.Moves.{moment-range, moment-kept, first-so-many}
 use Rattle.pair.proofs.Measure.{bit, weight, CalmLook}
 use Rattle.pair.proofs.Timers.{Moved, moved}
-use Rattle.pair.proofs.Falls.{carried-falls, look-does, look-falls, onward-clock}
+use Rattle.pair.proofs.Falls.{carried-falls, look-does, look-falls, onward-clock, within-24}
 
 -- ---- what a frame costs: it is answered by a cheaper one, if at all
 
@@ -343,3 +343,6 @@ carries-load s S U ms c r I (there S₁ T U₁ k rest) =
 pub carrying-ends : CarryingEnds trueCalls
 carrying-ends s S T ms m c k =
     omega (arith, carries-load s S T ms c (moment-range s S m) (moment-kept s S m) k, load-most (s .format) (S .here .queue), load-most (s .format) (S .there .queue))
+
+pub demand-3 : Demand3 trueCalls
+demand-3 = record { first = first-so-many; within = within-24; exist = rounds-exist }

@@ -8,3 +8,7 @@ pub mod Timers
 pub mod Milliseconds
 pub mod Exist
 pub mod Worked
+pub mod Acts
+pub mod Refuted
+pub mod Unseen
+pub mod Mixing

@@ -22,8 +22,8 @@ use Rattle.state.specs.declared.Link.{Link}
 use Rattle.state.specs.declared.Outcome.{Outcome}
 use Rattle.state.specs.Fields.{withLost}
 use Rattle.state.specs.State.{lastCorrect, sentBefore}
-use Rattle.state.specs.Gate.{After, refused, gated, entryOf, gateOf}
-use Rattle.state.specs.Calls.{resetSent, resynchronised}
+use Rattle.state.specs.Gate.{After, refused, gated, gateOf}
+use Rattle.state.specs.Calls.{resynchronised}
 use Rattle.state.specs.Formed.{InRange, Formed, Open}
 use Rattle.state.proofs.Facts.{inRange-facts, wellFormed-facts, gateOf-facts, gated-cases}
 use Rattle.state.proofs.Keeps.{marked-sound}
@@ -38,7 +38,8 @@ use Rattle.receive.specs.Take.{obeyed, frameTaken}
 use Rattle.receive.proofs.Facts.{repeatable-holds, data-taken}
 use Rattle.clock.specs.Look.{afterOldest, exhausted, served, acknowledgedIf, lookedOpen, looked, acknowledgedNow}
 use Rattle.clock.proofs.Facts.{due-waits}
-use Rattle.pair.specs.System.{swap, Harm, IsClock, submit, take-head, look, acknowledge, reset-refused, harm, start, here, there}
+use Rattle.link.proofs.Kept.{reset-refused}
+use Rattle.pair.specs.System.{swap, Harm, IsClock, submit, take-head, look, acknowledge, resynchronise, harm, start, here, there}
 use Rattle.pair.specs.Demand3.{FirstSoMany}
 use Rattle.pair.specs.TrueCalls.{trueCalls, System, sentBy, takenBy, deliveredBy, leftBy, called, submits, takes, looks, acknowledges, Move, Moment}
 use Rattle.pair.proofs.Line.{Line, data-next, ack-next, idle-next, Idle, by-size, by-sum, a-nak, line-taken, line-freed, line-mono}
@@ -256,18 +257,11 @@ acknowledge-kept s S frame r I =
     open-kept s S frame (acknowledgedIf (S .here .state .acking) (S .here .state) (S .here .slots) frame) I (λ room. acknowledged-kept s S frame (S .here .state .acking) r room I)
 
 -- a resynchronise that is refused
-reset-kept : (s : Settings) (S : System) (frame : List ℕ) → (resynchronised (S .here .state) (S .here .slots) frame .told .answer ≡ done → ⊥) → Inv s S
+pub reset-kept : (s : Settings) (S : System) (frame : List ℕ) → (resynchronised (S .here .state) (S .here .slots) frame .told .answer ≡ done → ⊥) → Inv s S
     → Inv s (called S (resynchronised (S .here .state) (S .here .slots) frame) (S .here .queue) [] [])
-unfolding resynchronised
 reset-kept s S frame n I =
-    gated-cases (λ (a : After Outcome). (a .told .answer ≡ done → ⊥) → Inv s (called S a (S .here .queue) [] [])) g l (S .here .slots) frame (resetSent l (S .here .slots) frame)
-    (λ q no. absurd (no refl)) (λ q no. concluded-nothing s S frame (S .here .queue) g I) n
-  where
-    l : Link
-    l = S .here .state
-
-    g : ℕ
-    g = entryOf l (length (S .here .slots)) (length frame)
+    subst (λ (a : After Outcome). Inv s (called S a (S .here .queue) [] [])) (sym (reset-refused (S .here .state) (S .here .slots) frame n))
+    (concluded-nothing s S frame (S .here .queue) (resynchronised (S .here .state) (S .here .slots) frame .told .answer) I)
 
 -- ---- every move, every moment
 
@@ -276,7 +270,7 @@ move-kept s S T r (submit frame packet ms c) I = submit-kept s S frame packet ms
 move-kept s S T r (take-head frame received rest ms c e) I = take-kept s S frame received rest ms c r e I
 move-kept s S T r (look frame ms c) I = look-kept s S frame ms c r I
 move-kept s S T r (acknowledge frame) I = acknowledge-kept s S frame r I
-move-kept s S T r (reset-refused frame n) I = reset-kept s S frame n I
+move-kept s S T r (resynchronise frame n) I = reset-kept s S frame n I
 move-kept s S T r (harm queue k) I = inv-harm s S queue (subst (λ (x : Settings). Harm (x .format) (S .here .queue) queue) (I .here .settings) k) I
 
 -- a moment's settings are in range

@@ -61,7 +61,8 @@ pub data Looks {State : Type 0} (calls : Calls State) (ms : ℕ) : System State 
 
 -- ---- rounds
 
--- one round from a clock on, and by how many milliseconds it moves the clock; either end may be the first to be looked at
+-- one round from a clock on, and by how many milliseconds it moves the clock; either end may be the first to be looked at (looks that take turns
+-- leave the same: Mixture.antt)
 pub data Round {State : Type 0} (calls : Calls State) (ms : ℕ) : System State → ℕ → System State → Type 0 where
   round : (S T U W : System State) (passed : ℕ) → Carries calls ms S T → T .here .queue ≡ [] → T .there .queue ≡ [] → Passes (seenBoth calls T) ms passed
       → Looks calls (onward ms passed) T U → Looks calls (onward ms passed) (swap U) (swap W) → Round calls ms S passed W

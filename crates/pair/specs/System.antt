@@ -167,7 +167,7 @@ pub data Move {State : Type 0} (calls : Calls State) (S : System State) : System
   take-head : (frame received : List ℕ) (rest : List (List ℕ)) (ms : ℕ) → IsClock ms → S .here .queue ≡ received ∷ rest → Move calls S (takes calls S frame ms received rest)
   look : (frame : List ℕ) (ms : ℕ) → IsClock ms → Move calls S (looks calls S frame ms)
   acknowledge : (frame : List ℕ) → Move calls S (acknowledges calls S frame)
-  reset-refused : (frame : List ℕ) → (resetOf calls S frame .told .answer ≡ done → ⊥) → Move calls S (turns S (resetOf calls S frame))
+  resynchronise : (frame : List ℕ) → (resetOf calls S frame .told .answer ≡ done → ⊥) → Move calls S (turns S (resetOf calls S frame))
   harm : (queue : List (List ℕ)) → Harm (calls .seen (S .here .state) .settings .format) (S .here .queue) queue → Move calls S (withQueue S queue)
 
 -- ---- moments

@@ -1,0 +1,113 @@
+-- Wrong links, and what of demand 3 each breaks: proofs/Refuted.antt shows it by a history of each, computed. Then wrong links that demand 3, or a
+-- half of it, does not see: proofs/Unseen.antt. What is quoted is document 01's. An end of one call alone is in FalseEnds.antt (link), where the
+-- call's own equation shuts it out.
+use Prim.Native.Nat.{ℕ, _+_, _*_}
+use mathlib.Core.Bool.{true, false, cond}
+use mathlib.Core.List.{List, [], _∷_}
+use mathlib.Core.Path.{_≡_}
+use lib.ListN.{take, drop}
+use lib.Dec.{eqb}
+use Rattle.base.specs.Answer.{done}
+use Rattle.base.specs.Buffer.{put}
+use Rattle.frame.specs.Bytes.{dataFrame}
+use Rattle.frame.specs.Steps.{fctrOf, isControl, numberOf}
+use Rattle.state.specs.declared.Link.{Link}
+use Rattle.state.specs.declared.Outcome.{Outcome}
+use Rattle.state.specs.Bounds.{slotsNeed}
+use Rattle.state.specs.State.{slotOf}
+use Rattle.state.specs.Gate.{After, after, refused}
+use Rattle.state.specs.Calls.{resynchronised}
+use Rattle.send.specs.Submit.{submitted}
+use Rattle.send.specs.Makers.{concluded, sendsAck}
+use Rattle.receive.specs.Take.{frameTaken}
+use Rattle.clock.specs.declared.Looked.{Looked}
+use Rattle.clock.specs.Look.{looking, looked, acknowledgedNow}
+use Rattle.link.specs.FalseEnds.{Call, refusing, repeating, idle, pretending, inventing, overGap, lookedWhen, bySize, bySizeWrapped}
+use Rattle.pair.specs.System.{Calls}
+use Rattle.pair.specs.Demand3.{FirstSoMany, Within24, RoundsExist, Demand3}
+use Rattle.pair.specs.TrueCalls.{linkOf, lookTold, trueCalls}
+use Rattle.pair.specs.Run.{settings, loanA}
+use Rattle.pair.specs.History.{Step, desk, submits-at, looks-at, run}
+
+-- ---- the true link but for one call
+
+abbrev pub withSubmit : Call → Calls Link
+withSubmit call = linkOf call frameTaken looked acknowledgedNow resynchronised
+
+abbrev pub withTake : Call → Calls Link
+withTake call = linkOf submitted call looked acknowledgedNow resynchronised
+
+abbrev pub withLook : (Link → List ℕ → List ℕ → ℕ → After Looked) → Calls Link
+withLook call = linkOf submitted frameTaken call acknowledgedNow resynchronised
+
+-- ---- "Repeating stored frame bytes: an old ACK three numbers back reads as one ahead."
+
+-- a packet's frame is kept behind the slots, which may be lent longer than is needed
+abbrev pub keptAt : Link → ℕ → ℕ
+keptAt l number = slotsNeed (l .settings) + slotOf l number * l .settings .format .d
+
+unfoldable pub keeping : Call
+unfolding submitted put
+keeping l slots frame ms packet =
+    let right : After Outcome = submitted l slots frame ms packet in
+    cond (eqb (right .told .answer) done)
+    (after (right .told) (put (right .slots) (keptAt l (l .next)) (take (right .told .sent) (right .frame))) (right .frame)) right
+
+-- the only data that take and look send is repeated: the kept bytes go out in its place, with the acknowledgement of the first sending
+unfoldable pub asKept : Link → After Outcome → After Outcome
+unfolding put
+asKept l right =
+    let kept : List ℕ = drop (keptAt l (numberOf (fctrOf (right .frame)))) (right .slots) in
+    cond (eqb (right .told .sent) 0) right
+    (cond (isControl (fctrOf (right .frame))) right (after (right .told) (right .slots) (put (right .frame) 0 (take (right .told .sent) kept))))
+
+unfoldable pub takenKept : Call
+unfolding frameTaken asKept
+takenKept l slots frame ms received = asKept l (frameTaken l slots frame ms received)
+
+unfoldable pub lookedKept : Link → List ℕ → List ℕ → ℕ → After Looked
+unfolding looked asKept
+lookedKept l slots frame ms = looking (asKept l (lookTold (looked l slots frame ms)))
+
+abbrev pub storing : Calls Link
+storing = linkOf keeping takenKept lookedKept acknowledgedNow resynchronised
+
+-- ---- what each breaks
+
+-- "The fourth also breaks demand 3's second half, and so does the third where it claims to have taken a packet.": `pretends-on`, `claims`.
+-- "Delivering the frame after a gap.": `skips`. "Comparing deadline and clock by size.": `by-size`, of a deadline that does not wrap.
+pub record Refuted : Type 0 where
+  pub repeats : FirstSoMany (withSubmit (repeating (dataFrame (settings .format) 0 3 loanA))) → ⊥
+  pub invents : FirstSoMany (withTake (inventing 1 0)) → ⊥
+  pub pretends : FirstSoMany (withSubmit pretending) → ⊥
+  pub pretends-on : Within24 (withSubmit pretending) → ⊥
+  pub claims : Within24 (withSubmit idle) → ⊥
+  pub skips : FirstSoMany (withTake overGap) → ⊥
+  pub by-size : Within24 (withLook (lookedWhen bySize)) → ⊥
+  pub forgets : Within24 storing → ⊥
+  pub confuses : FirstSoMany storing → ⊥
+
+-- ---- what demand 3 does not see, and the calls' equations do
+
+-- every call refuses, by whatever number but 0. "The first takes none, so demand 2 alone shuts it out."
+abbrev pub refusingAll : ℕ → Calls Link
+refusingAll answer =
+    linkOf (refusing answer) (refusing answer) (λ l slots frame ms. looking (refused l answer slots frame)) (λ l slots frame. refused l answer slots frame)
+    (λ l slots frame. refused l answer slots frame)
+
+-- every look sends an ACK: no round ends, so the second half holds of nothing
+abbrev pub chatting : Link → List ℕ → List ℕ → ℕ → After Looked
+chatting l slots frame ms = looking (concluded (sendsAck l frame) done 0 slots)
+
+-- The supplier's fault: the deadline wraps and is compared with the clock by size. 20 ms before the wrap the timer of a packet just sent is due at
+-- once: the repeats are spent within a millisecond, nothing being lost or damaged, and the link is declared lost. Demand 3 asks that no link be
+-- lost, so it has nothing to say of this end; the equation of `looked` has (`FalseEnds`, link).
+abbrev pub hasty : List Step
+hasty = desk (submits-at 4294967276 loanA) ∷ desk (looks-at 4294967276) ∷ desk (looks-at 4294967276) ∷ desk (looks-at 4294967276) ∷ []
+
+pub record Unseen : Type 0 where
+  pub refuses : (answer : ℕ) → (answer ≡ done → ⊥) → Demand3 (refusingAll answer)
+  pub chats : FirstSoMany (withLook chatting) × Within24 (withLook chatting)
+  pub chats-on : RoundsExist (withLook chatting) → ⊥
+  pub loses : run (withLook (lookedWhen bySizeWrapped)) hasty .here .state .lost ≡ true
+  pub keeps : run trueCalls hasty .here .state .lost ≡ false
