@@ -21,7 +21,7 @@ use Rattle.pair.specs.Demand3.{FirstSoMany, Within24, Through, Alive}
 use Rattle.pair.specs.TrueCalls.{System}
 use Rattle.pair.specs.Run.{settings, buffer, slots, loanA, loanB}
 use Rattle.pair.specs.History.{submits-at, takes-at, looks-at, acknowledges-now, loses, Step, desk, chip, run, room, fresh}
-use Rattle.pair.specs.FalseCalls.{withSubmit, withTake, withLook, keeping, takenKept, lookedKept, asKept, storing, Refuted}
+use Rattle.pair.specs.FalseCalls.{withSubmit, withTake, withLook, keeping, takenKept, lookedKept, asKept, storing, late, Refuted, LineKept}
 use Rattle.pair.proofs.Acts.{told-moment, still}
 
 -- ---- what the histories share
@@ -160,6 +160,25 @@ confuses : FirstSoMany storing → ⊥
 unfolding submitted frameTaken looked acknowledgedNow keeping takenKept lookedKept asKept freshOf put frameOf checksumOf
 confuses f = less 3 7 (omega arith) (sym (ap (byteOf 2 0) (f settings (run storing confuse) (reached storing confuse) .1)))
 
+-- ---- an end that expects number 2 when it begins: its acknowledgement of number 1 frees loans A and B, and the third packet is delivered first
+
+abbrev begin-late : List Step
+begin-late =
+    desk (submits-at 0 loanA) ∷ desk (submits-at 1 loanB) ∷ chip (takes-at 2) ∷ chip (takes-at 3) ∷ desk (takes-at 4) ∷ desk (submits-at 5 (numbered 3)) ∷ chip (takes-at 6) ∷ []
+
+begins-late : FirstSoMany late → ⊥
+unfolding submitted frameTaken freshOf put frameOf checksumOf
+begins-late f = less 0 3 (omega arith) (sym (ap (byteOf 0 0) (f settings (run late begin-late) (reached late begin-late) .0)))
+
+-- ---- a line that forges or does not keep order
+
+pub line-kept : LineKept
+unfolding submitted frameTaken looked acknowledgedNow freshOf put frameOf checksumOf
+line-kept = record {
+  forges = λ e. less 0xA1 0xB2 (omega arith) (sym (ap (byteOf 0 1) e));
+  reorders = λ e. less 4 5 (omega arith) (sym (ap length e));
+}
+
 pub refuted : Refuted
 refuted = record {
   repeats = repeats;
@@ -171,4 +190,5 @@ refuted = record {
   by-size = by-size;
   forgets = forgets;
   confuses = confuses;
+  begins-late = begins-late;
 }

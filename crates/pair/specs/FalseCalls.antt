@@ -3,7 +3,7 @@
 -- call's own equation shuts it out.
 use Prim.Native.Nat.{ℕ, _+_, _*_}
 use mathlib.Core.Bool.{true, false, cond}
-use mathlib.Core.List.{List, [], _∷_}
+use mathlib.Core.List.{List, [], _∷_, _++_}
 use mathlib.Core.Path.{_≡_}
 use lib.ListN.{take, drop}
 use lib.Dec.{eqb}
@@ -14,7 +14,8 @@ use Rattle.frame.specs.Steps.{fctrOf, isControl, numberOf}
 use Rattle.state.specs.declared.Link.{Link}
 use Rattle.state.specs.declared.Outcome.{Outcome}
 use Rattle.state.specs.Bounds.{slotsNeed}
-use Rattle.state.specs.State.{slotOf}
+use Rattle.state.specs.Fields.{withExpected}
+use Rattle.state.specs.State.{freshOf, slotOf}
 use Rattle.state.specs.Gate.{After, after, refused}
 use Rattle.state.specs.Calls.{resynchronised}
 use Rattle.send.specs.Submit.{submitted}
@@ -23,11 +24,11 @@ use Rattle.receive.specs.Take.{frameTaken}
 use Rattle.clock.specs.declared.Looked.{Looked}
 use Rattle.clock.specs.Look.{looking, looked, acknowledgedNow}
 use Rattle.link.specs.FalseEnds.{Call, refusing, repeating, idle, pretending, inventing, overGap, lookedWhen, bySize, bySizeWrapped}
-use Rattle.pair.specs.System.{Calls}
-use Rattle.pair.specs.Demand3.{FirstSoMany, Within24, RoundsExist, Demand3}
-use Rattle.pair.specs.TrueCalls.{linkOf, lookTold, trueCalls}
-use Rattle.pair.specs.Run.{settings, loanA}
-use Rattle.pair.specs.History.{Step, desk, submits-at, looks-at, run}
+use Rattle.pair.specs.System.{Calls, swap, withQueue}
+use Rattle.pair.specs.Demand3.{FirstSoManyOf, FirstSoMany, Within24, RoundsExist, Demand3}
+use Rattle.pair.specs.TrueCalls.{System, linkOf, lookTold, trueCalls}
+use Rattle.pair.specs.Run.{settings, loanA, loanB}
+use Rattle.pair.specs.History.{Step, desk, chip, submits-at, takes-at, looks-at, acknowledges-now, told, run}
 
 -- ---- the true link but for one call
 
@@ -72,6 +73,19 @@ lookedKept l slots frame ms = looking (asKept l (lookTold (looked l slots frame 
 abbrev pub storing : Calls Link
 storing = linkOf keeping takenKept lookedKept acknowledgedNow resynchronised
 
+-- ---- an end that does not begin fresh: it expects number 2
+
+abbrev pub late : Calls Link
+late = record {
+  seen = trueCalls .seen;
+  fresh = λ s. withExpected (freshOf s) 2;
+  submit = trueCalls .submit;
+  take = trueCalls .take;
+  look = trueCalls .look;
+  acknowledge = trueCalls .acknowledge;
+  resynchronise = trueCalls .resynchronise;
+}
+
 -- ---- what each breaks
 
 -- "The fourth also breaks demand 3's second half, and so does the third where it claims to have taken a packet.": `pretends-on`, `claims`.
@@ -86,6 +100,38 @@ pub record Refuted : Type 0 where
   pub by-size : Within24 (withLook (lookedWhen bySize)) → ⊥
   pub forgets : Within24 storing → ⊥
   pub confuses : FirstSoMany storing → ⊥
+  pub begins-late : FirstSoMany late → ⊥
+
+-- ---- what the line may not do, or the true link itself breaks the first half
+
+-- the queue towards the chip, another one
+abbrev pub toChip : System → (List (List ℕ) → List (List ℕ)) → System
+toChip S other = swap (withQueue (swap S) (other (S .there .queue)))
+
+-- it forges: in place of the frame of loan A the chip gets a right one of loan B
+abbrev pub forged : System
+forged =
+    told trueCalls (toChip (run trueCalls (desk (submits-at 0 loanA) ∷ [])) (λ queue. dataFrame (settings .format) 0 3 loanB ∷ [])) (chip (takes-at 1) ∷ [])
+
+-- it does not keep order: the first frame of loan A falls behind its repeat and then behind the next three packets, and comes when the chip
+-- expects its number again
+abbrev pub behindAll : List (List ℕ) → List (List ℕ)
+behindAll [] = []
+behindAll (x ∷ q) = q ++ (x ∷ [])
+
+abbrev pub passedBy : List ℕ → System → System
+passedBy packet S =
+    toChip (told trueCalls S (chip (takes-at 101) ∷ chip acknowledges-now ∷ desk (takes-at 102) ∷ desk (submits-at 103 packet) ∷ [])) behindAll
+
+abbrev pub overtaken : System
+overtaken =
+    told trueCalls
+    (passedBy loanB (passedBy loanB (passedBy loanB (toChip (run trueCalls (desk (submits-at 0 loanA) ∷ desk (looks-at 100) ∷ [])) behindAll))))
+    (chip (takes-at 104) ∷ chip (takes-at 105) ∷ [])
+
+pub record LineKept : Type 0 where
+  pub forges : FirstSoManyOf (forged .there .delivered) (forged .here .taken) → ⊥
+  pub reorders : FirstSoManyOf (overtaken .there .delivered) (overtaken .here .taken) → ⊥
 
 -- ---- what demand 3 does not see, and the calls' equations do
 
