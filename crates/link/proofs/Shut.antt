@@ -1,54 +1,199 @@
--- The false ends of specs/FalseEnds.antt, each tried at one fresh end, by computing. Assumes nothing.
-use mathlib.Core.Path.{_≡_, sym, ap, _∙_}
+-- The false ends of specs/FalseEnds.antt, each tried at one state, by computing. Assumes nothing.
+use mathlib.Core.Path.{_≡_, refl, ap}
+use mathlib.Core.Logic.{_≢_}
+use mathlib.Core.Bool.{Bool, true, false, cond}
 use mathlib.Core.List.{List, [], _∷_}
-use Prim.Native.Nat.{ℕ, _+_, _<_}
+use Prim.Native.Nat.{ℕ, suc, _+_, _-_, _≤_}
 use native.Mathlib.Omega.{arith}
-use lib.ListN.{getD}
+use borrow.Author.Tests.{eqb-false}
+use lib.ListN.{length, getD, replicate}
 use Rattle.base.specs.Buffer.{put}
 use Rattle.fcs.specs.Checksum.{checksumOf}
-use Rattle.frame.specs.Bytes.{frameOf}
+use Rattle.frame.specs.declared.Format.{Format}
+use Rattle.frame.specs.Bytes.{frameOf, dataFrame, ackFrame, nakFrame, resetFrame}
+use Rattle.state.specs.declared.Settings.{Settings}
 use Rattle.state.specs.declared.Link.{Link}
 use Rattle.state.specs.declared.Outcome.{Outcome}
+use Rattle.state.specs.Fields.{withStarts, withRepeated, withWaiting, withAcking, withNakmark, withLost}
 use Rattle.state.specs.State.{freshOf}
 use Rattle.state.specs.Gate.{After}
+use Rattle.state.specs.Calls.{started, resynchronised}
 use Rattle.send.specs.Submit.{submitted}
 use Rattle.receive.specs.Take.{frameTaken}
-use Rattle.link.specs.FalseEnds.{ShutOut}
+use Rattle.clock.specs.Look.{looked, acknowledgedNow}
+use Rattle.link.specs.FalseEnds.{StartCall, Call, LookCall, Bare, Change, submitBut, takeBut, outcomeOf, lookBut, Shows, refuse, repeat, pretend, invent, spareSlots, spareFrame, overrun, smear, lostFirst, lookedWhen, LookedWhenTrue, ShutOut, ShutOutAlone}
 
-abbrev end : Link
-end = freshOf (record { format = record { d = 16 }; transtimeout = 100; acktimeout = 50; window = 2; repeats = 3 })
+-- ---- where they are tried
 
+abbrev format : Format
+format = record { d = 16 }
+
+abbrev settings : ℕ → Settings
+settings window = record { format = format; transtimeout = 100; acktimeout = 50; window = window; repeats = 3 }
+
+-- an end that has sent so many packets, of which so many wait, each of one byte and sent at 0; it has got two, and the acknowledge timer runs
+-- since 0
+abbrev end : ℕ → ℕ → ℕ → Link
+end window next waiting = record {
+  settings = settings window;
+  starts = 0 ∷ 0 ∷ [];
+  ackstart = 0;
+  lengths = 1 ∷ 1 ∷ [];
+  repeated = 0 ∷ 0 ∷ [];
+  next = next;
+  expected = 2;
+  waiting = waiting;
+  acking = true;
+  nakmark = false;
+  lost = false;
+}
+
+abbrev none : Link
+none = end 2 1 0
+
+abbrev one : Link
+one = end 2 1 1
+
+abbrev two : Link
+two = end 2 2 2
+
+-- as many bytes as they need
 abbrev slots : List ℕ
-slots = 0 ∷ 0 ∷ 0 ∷ 0 ∷ 0 ∷ 0 ∷ 0 ∷ 0 ∷ 0 ∷ 0 ∷ 0 ∷ 0 ∷ 0 ∷ 0 ∷ 0 ∷ 0 ∷ 0 ∷ 0 ∷ 0 ∷ 0 ∷ 0 ∷ 0 ∷ []
+slots = replicate 22 0
 
 abbrev buffer : List ℕ
-buffer = 0 ∷ 0 ∷ 0 ∷ 0 ∷ 0 ∷ 0 ∷ 0 ∷ 0 ∷ 0 ∷ 0 ∷ 0 ∷ 0 ∷ 0 ∷ 0 ∷ 0 ∷ 0 ∷ []
+buffer = replicate 16 0
 
--- document 01's example 6
-abbrev six : List ℕ
-six = 0x03 ∷ 0x00 ∷ 0x01 ∷ 0x00 ∷ 0x15 ∷ 0x3C ∷ []
+abbrev packet : List ℕ
+packet = 1 ∷ []
 
--- byte 3 is the first of the packet
-abbrev byte3 : After Outcome → ℕ
-byte3 a = getD (a .frame) 3 0
+-- a data frame with ACK 3, which frees nothing
+abbrev numbered : ℕ → List ℕ
+numbered number = dataFrame format number 3 packet
 
-less : (n m : ℕ) → n < m → n ≡ m → ⊥
-less n m h e = omega (arith, h, e)
+-- whether the acknowledge timer runs, as a number
+abbrev bit : Bool → ℕ
+bit b = cond b 1 0
+
+-- ---- all five calls at a time
+
+-- a change shows if each call is read otherwise with it: submit of the packet, take of NAK 0, look, at 100
+each : (change : Change) (read : Bare → ℕ)
+    → read (λ l slots frame. submitBut change l slots frame 100 packet) ≢ read (λ l slots frame. submitted l slots frame 100 packet)
+    → read (λ l slots frame. takeBut change l slots frame 100 (nakFrame format 0)) ≢ read (λ l slots frame. frameTaken l slots frame 100 (nakFrame format 0))
+    → read (λ l slots frame. outcomeOf (lookBut change l slots frame 100)) ≢ read (λ l slots frame. outcomeOf (looked l slots frame 100))
+    → read (change acknowledgedNow) ≢ read acknowledgedNow → read (change resynchronised) ≢ read resynchronised → Shows change
+each change read submit take look acknowledge resynchronise = record {
+  submit = λ same. submit (ap (λ (f : Call). read (λ l slots frame. f l slots frame 100 packet)) same);
+  take = λ same. take (ap (λ (f : Call). read (λ l slots frame. f l slots frame 100 (nakFrame format 0))) same);
+  look = λ same. look (ap (λ (f : LookCall). read (λ l slots frame. outcomeOf (f l slots frame 100))) same);
+  acknowledge = λ same. acknowledge (ap read same);
+  resynchronise = λ same. resynchronise (ap read same);
+}
+
+same-less-same : (n k : ℕ) → n - n ≢ suc k
+same-less-same n k e = omega (arith, e)
+
+one-more : (n : ℕ) → n ≢ suc n
+one-more n e = omega (arith, e)
+
+none-invented : (n k : ℕ) → 1 ≤ n + k → 0 + n + (0 + k) ≢ 0
+none-invented n k more e = omega (arith, more, e)
+
+-- ---- the theorems
+
+pub lookedWhen-true : LookedWhenTrue
+unfolding lookedWhen looked
+lookedWhen-true = refl
+
+pub shut-out-alone : ShutOutAlone
+unfolding frameTaken looked put frameOf checksumOf
+shut-out-alone = record {
+  nak-frees = λ same. eqb-false 1 2 refl (ap (λ (f : Call). f two slots buffer 0 (nakFrame format 1) .told .state .waiting) same);
+  nak-in-data-frees = λ same. eqb-false 1 2 refl (ap (λ (f : Call). f two slots buffer 0 (frameOf format 0x29 packet) .told .state .waiting) same);
+  ack-for-the-oldest-only = λ same. eqb-false 2 0 refl (ap (λ (f : Call). f two slots buffer 0 (ackFrame format 1) .told .state .waiting) same);
+  mark-kept = λ same. eqb-false 1 0 refl (ap (λ (f : Call). bit (f (withNakmark one true) slots buffer 0 (numbered 2) .told .state .nakmark)) same);
+  silent-duplicate = λ same. eqb-false 0 5 refl (ap (λ (f : Call). f one slots buffer 0 (numbered 1) .told .sent) same);
+  nak-for-a-duplicate = λ same. eqb-false 0xA2 0x81 refl (ap (λ (f : Call). getD (f one slots buffer 0 (numbered 1) .frame) 0 0) same);
+  timer-never-sends = λ same. eqb-false 0 5 refl (ap (λ (f : LookCall). f none slots buffer 100 .told .outcome .sent) same);
+  lost-at-once = λ same. eqb-false 3 0 refl (ap (λ (f : LookCall). f one slots buffer 100 .told .outcome .answer) same);
+}
 
 pub shut-out : ShutOut
-unfolding submitted frameTaken freshOf put frameOf checksumOf
+unfolding started submitted frameTaken looked acknowledgedNow resynchronised lookedWhen freshOf put frameOf checksumOf
 shut-out = record {
-  refuses-submit = λ answer no same. no (ap (λ (a : After Outcome). a .told .answer) (same end slots buffer 0 (1 ∷ [])));
-  refuses-take = λ answer no same. no (ap (λ (a : After Outcome). a .told .answer) (same end slots buffer 0 six));
-  repeats = λ bytes same.
-      let one : getD (put buffer 0 bytes) 3 0 ≡ 1 = ap byte3 (same end slots buffer 0 (1 ∷ [])) in
-      let two : getD (put buffer 0 bytes) 3 0 ≡ 2 = ap byte3 (same end slots buffer 0 (2 ∷ [])) in
-      less 1 2 (omega arith) (sym one ∙ two);
-  idles-submit = λ same. less 0 1 (omega arith) (ap (λ (a : After Outcome). a .told .state .waiting) (same end slots buffer 0 (1 ∷ [])));
-  idles-take = λ same. less 0 1 (omega arith) (ap (λ (a : After Outcome). a .told .delivered) (same end slots buffer 0 six));
-  pretends = λ same. less 0 2 (omega arith) (ap byte3 (same (submitted end slots buffer 0 (1 ∷ []) .told .state) slots buffer 0 (2 ∷ [])));
-  invents = λ delivered dropped more same.
-      let e : 0 + delivered ≡ 0 = ap (λ (a : After Outcome). a .told .delivered) (same end slots buffer 0 []) in
-      let f : 0 + dropped ≡ 0 = ap (λ (a : After Outcome). a .told .dropped) (same end slots buffer 0 []) in
-      omega (arith, more, e, f);
+  refuses = λ answer other. each (refuse answer) (λ call. call one slots buffer .told .answer) other other other other other;
+  repeats = λ same.
+      each (repeat same) (λ call. call one slots buffer .told .sent - call one slots [] .told .sent)
+      (same-less-same (length same) 5)
+      (same-less-same (length same) 5)
+      (same-less-same (length same) 5)
+      (same-less-same (length same) 4)
+      (same-less-same (length same) 4);
+  idles =
+      each (refuse 0) (λ call. call one slots buffer .told .sent)
+      (eqb-false 0 6 refl)
+      (eqb-false 0 6 refl)
+      (eqb-false 0 6 refl)
+      (eqb-false 0 5 refl)
+      (eqb-false 0 5 refl);
+  pretends =
+      each pretend (λ call. getD (call one slots buffer .frame) 0 0)
+      (eqb-false 0 0x05 refl)
+      (eqb-false 0 0x01 refl)
+      (eqb-false 0 0x01 refl)
+      (eqb-false 0 0x81 refl)
+      (eqb-false 0 0xC0 refl);
+  invents = λ delivered dropped more.
+      let none : 0 + delivered + (0 + dropped) ≢ 0 = none-invented delivered dropped more in
+      each (invent delivered dropped) (λ call. call one slots [] .told .delivered + call one slots [] .told .dropped) none none none none none;
+  short-slots =
+      let wrong : _≢_ {A = ℕ} 0 2 = eqb-false 0 2 refl in
+      each spareSlots (λ call. call one (replicate 21 0) buffer .told .answer) wrong wrong wrong wrong wrong;
+  short-frame =
+      let wrong : _≢_ {A = ℕ} 0 2 = eqb-false 0 2 refl in
+      each spareFrame (λ call. call one slots (replicate 15 0) .told .answer) wrong wrong wrong wrong wrong;
+  past-the-frame = λ byte.
+      let wrong : byte ≢ suc byte = one-more byte in
+      each (overrun byte) (λ call. let a : After Outcome = call one slots (replicate 16 (suc byte)) in getD (a .frame) (a .told .sent) 0) wrong wrong wrong wrong wrong;
+  on-refusal = λ byte.
+      let wrong : byte ≢ suc byte = one-more byte in
+      each (smear byte) (λ call. getD (call one [] (suc byte ∷ []) .frame) 0 0) wrong wrong wrong wrong wrong;
+  lost-before-short =
+      let wrong : _≢_ {A = ℕ} 3 2 = eqb-false 3 2 refl in
+      each lostFirst (λ call. call (withLost one true) [] [] .told .answer) wrong wrong wrong wrong wrong;
+  start = record {
+    refuses = λ answer other same. other (ap (λ (f : StartCall). f (settings 2) 22 .answer) same);
+    idles = λ same. eqb-false 0 2 refl (ap (λ (f : StartCall). f (settings 2) 22 .state .settings .window) same);
+    invents = λ delivered dropped more same. none-invented delivered dropped more (ap (λ (f : StartCall). f (settings 2) 22 .delivered + f (settings 2) 22 .dropped) same);
+    short-slots = λ same. eqb-false 0 2 refl (ap (λ (f : StartCall). f (settings 2) 21 .answer) same);
+    short-before-range = λ same. eqb-false 2 1 refl (ap (λ (f : StartCall). f (settings 3) 0 .answer) same);
+    other-state-with-1 = λ other differs same. differs (ap (λ (f : StartCall). f (settings 3) 0 .state) same);
+    other-state-with-2 = λ other differs same. differs (ap (λ (f : StartCall). f (settings 2) 0 .state) same);
+  };
+  submit = record {
+    full-before-size = λ same. eqb-false 5 4 refl (ap (λ (f : Call). f two slots buffer 0 [] .told .answer) same);
+    slots-on-refusal = λ byte same. one-more byte (ap (λ (f : Call). getD (f one (suc byte ∷ []) [] 0 packet .slots) 0 0) same);
+    slot-by-two = λ same. eqb-false 0 1 refl (ap (λ (f : Call). getD (f (end 1 1 0) slots buffer 0 packet .slots) 0 0) same);
+    timer-left = λ same. eqb-false 1 0 refl (ap (λ (f : Call). bit (f one slots buffer 0 packet .told .state .acking)) same);
+  };
+  take = record {
+    reset-when-lost = λ same. eqb-false 0 3 refl (ap (λ (f : Call). f (withLost one true) slots buffer 0 (resetFrame format) .told .answer) same);
+    nak-in-step-3 = λ same. eqb-false 5 0 refl (ap (λ (f : Call). f one slots buffer 0 (frameOf format 0x80 packet) .told .sent) same);
+    over-gap = λ same. eqb-false 1 0 refl (ap (λ (f : Call). f one slots buffer 0 (numbered 3) .told .delivered) same);
+    timer-left-by-repeat = λ same. eqb-false 1 0 refl (ap (λ (f : Call). bit (f one slots buffer 0 (nakFrame format 0) .told .state .acking)) same);
+    timer-left-by-ack = λ same. eqb-false 1 0 refl (ap (λ (f : Call). bit (f one slots buffer 0 (numbered 1) .told .state .acking)) same);
+  };
+  look = record {
+    passed-over = λ same. eqb-false 0 3 refl (ap (λ (f : LookCall). f (withRepeated two (3 ∷ 0 ∷ [])) slots buffer 100 .told .outcome .answer) same);
+    timer-left-by-repeat = λ same. eqb-false 1 0 refl (ap (λ (f : LookCall). bit (f one slots buffer 100 .told .outcome .state .acking)) same);
+    timer-left-by-ack = λ same. eqb-false 1 0 refl (ap (λ (f : LookCall). bit (f none slots buffer 100 .told .outcome .state .acking)) same);
+    by-size-wrapped = λ same.
+        eqb-false 6 0 refl
+        (ap (λ (f : LookCall). f (withStarts (withAcking one false) (4294967276 ∷ 0 ∷ [])) slots buffer 4294967277 .told .outcome .sent) same);
+    by-size = λ same.
+        eqb-false 0 6 refl (ap (λ (f : LookCall). f (withStarts (withAcking one false) (4294967276 ∷ 0 ∷ [])) slots buffer 80 .told .outcome .sent) same);
+  };
+  acknowledge-leaves-timer = λ same. eqb-false 1 0 refl (ap (λ (f : Bare). bit (f one slots buffer .told .state .acking)) same);
+  resynchronise-when-lost = λ same. eqb-false 3 0 refl (ap (λ (f : Bare). f (withLost one true) slots buffer .told .answer) same);
 }
