@@ -7,8 +7,8 @@ use native.Mathlib.Nat.{zero-add, add-assoc}
 use native.Mathlib.Omega.{arith}
 use borrow.Author.Tests.{eqb-true, eqb-false, ltb-true, ltb-false}
 use lib.Dec.{eqb, ltb}
-use lib.ListN.{length, take, drop, getD, set, length-append, length-take, length-drop, drop-of-length-le}
-use lib.Seq.{take-length, drop-drop, drop-append-add, take-at, drop-at, take-add, take-take, take-append-le, take-append-seam, sets, sets-eq, length-take-le, getD-set-same, getD-set-other, set-out}
+use lib.ListN.{length, take, drop, getD, set, length-append, length-take, length-drop, drop-of-length-le, take-append-drop}
+use lib.Seq.{take-length, drop-drop, drop-append-add, drop-append-le, take-at, drop-at, take-add, take-take, take-append-le, take-append-seam, sets, sets-eq, length-take-le, getD-set-same, getD-set-other, set-out}
 use Rattle.base.specs.Buffer.{put}
 
 pub put-length : (d s : List ℕ) (at : ℕ) → at + length s ≤ length d → length (put d at s) ≡ length d
@@ -64,6 +64,21 @@ unfolding put
 put-part d s part at k e h q =
     let rest : drop k (take k (drop at d)) ≡ [] = drop-of-length-le (take k (drop at d)) {i = k} (simp (length-take, length-drop) (omega arith)) in
     rw (q, take-length, ← e, rest, append-nil, drop-drop)
+
+-- what is left of a part behind its first n bytes, and all behind the part, is all behind those n
+behind-lent : (d : List ℕ) (at k n : ℕ) → n ≤ k → at + k ≤ length d → drop n (take k (drop at d)) ++ drop k (drop at d) ≡ drop (at + n) d
+behind-lent d at k n h l =
+    let inside : n ≤ length (take k (drop at d)) = simp (length-take, length-drop) (omega arith) in
+    sym (drop-append-le n (take k (drop at d)) (drop k (drop at d)) inside) ∙ ap (drop n) (take-append-drop k (drop at d)) ∙ drop-drop n at d
+
+-- a lent part of k bytes that comes back with s put at its beginning is s put where the part begins
+pub put-lent : (d s part : List ℕ) (at k : ℕ) → length s ≤ k → at + k ≤ length d → part ≡ put (take k (drop at d)) 0 s
+    → take at d ++ (part ++ drop k (drop at d)) ≡ put d at s
+unfolding put
+put-lent d s part at k h l q =
+    ap (λ (x : List ℕ). take at d ++ x)
+    (rw (q, zero-add)
+    (append-assoc s (drop (length s) (take k (drop at d))) (drop k (drop at d)) ∙ ap (λ (x : List ℕ). s ++ x) (behind-lent d at k (length s) h l)))
 
 -- ---- parts of a buffer after a put
 

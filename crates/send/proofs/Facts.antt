@@ -60,11 +60,8 @@ submitGate-fits l slots frame packet e =
     let s : InRange (l .settings) = f .settings in (
       (s .window-lo, s .window-hi),
       (f .next, omega (arith, a .place, s .window-hi)),
-      (
-        part-fits l (l .next) packet slots frame (a .gate) (a .most),
-        omega (arith, a .most, a .gate .entered .frame-room, s .d-lo),
-        omega (arith, a .most, s .d-hi),
-      ),
+      (a .most, part-fits l (l .next) (limitOf (l .settings)) slots frame (a .gate) (omega arith)),
+      (omega (arith, a .most, a .gate .entered .frame-room, s .d-lo), omega (arith, a .most, s .d-hi)),
     )
 
 -- the frame of a packet that is read from its slot

@@ -1,8 +1,8 @@
--- The packets in the slots when submit adds one, and what a repeat says. Assumes nothing.
+-- The packets in the slots when submit adds one. Assumes nothing.
 use mathlib.Core.Path.{_≡_, refl, ap, _∙_}
 use mathlib.Core.Bool.{Bool, true, false}
 use mathlib.Core.List.{List}
-use Prim.Native.Nat.{ℕ, _+_, _%_, _*_, _≤_, _<_}
+use Prim.Native.Nat.{ℕ, _%_, _*_, _≤_, _<_}
 use native.Mathlib.Nat.{zero-mul, one-mul}
 use native.Mathlib.Omega.{arith}
 use borrow.Author.Tests.{eqb-true, eqb-false}
@@ -11,12 +11,10 @@ use lib.Seq.{getD-set-same, getD-set-other}
 use lib.Dec.{eqb}
 use Rattle.base.specs.Buffer.{put}
 use Rattle.base.proofs.Put.{put-in, put-before, put-behind}
-use Rattle.frame.specs.Bytes.{dataFrame}
 use Rattle.state.specs.declared.Link.{Link}
 use Rattle.state.specs.Bounds.{limitOf}
-use Rattle.state.specs.State.{lastCorrect, slotOf, lengthOf}
-use Rattle.send.specs.Repeat.{partOf, packetOf, again}
-use Rattle.send.specs.Makers.{sends, sendsRepeat}
+use Rattle.state.specs.State.{slotOf, lengthOf}
+use Rattle.send.specs.Repeat.{partOf, packetOf}
 use Rattle.send.specs.Submit.{sentFirst, packetAccepted}
 
 -- the packet that submit took stands in its slot
@@ -54,12 +52,3 @@ old-packet l slots packet ms k w apart lk lp room =
         let a : partOf l k ≡ m = part-at l k 1 here ∙ one-mul m in
         let b : partOf l (l .next) ≡ 0 = part-at l (l .next) 0 there ∙ zero-mul m in
         ap (take (lengthOf l k)) (put-behind slots packet (partOf l (l .next)) (partOf l k) (omega arith) (omega arith))
-
--- it is one more that waits
-pub accepted-waits : (l : Link) (slots frame packet : List ℕ) (ms : ℕ) → packetAccepted l slots frame ms packet .told .state .waiting ≡ l .waiting + 1
-accepted-waits l slots frame packet ms = refl
-
--- a repeat carries the packet as it stands in its slot, and the last correct number of now
-pub repeat-says : (l : Link) (slots frame : List ℕ) (ms number : ℕ)
-    → sendsRepeat l slots frame ms number ≡ sends (again l number ms) (dataFrame (l .settings .format) number (lastCorrect l) (packetOf l slots number)) frame
-repeat-says l slots frame ms number = refl

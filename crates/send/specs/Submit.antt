@@ -55,12 +55,14 @@ packetAccepted l slots frame ms packet =
 
 -- ---- for the contracts of functions inside
 
--- what taking a packet stands on: a slot, a number and a place for one more, and the packet fits the slot's part and its frame the buffer
+-- what taking a packet stands on: a slot, a number and a place for one more, the packet fits the slot's part, that lies in
+-- the slot buffer, and its frame fits the frame buffer
 abbrev pub Acceptable : Link → ℕ → ℕ → ℕ → Type 0
 Acceptable l slots frame packet =
     ((1 ≤ l .settings .window) × (l .settings .window ≤ 2))
     × ((l .next ≤ 3) × (l .waiting < 2))
-    × ((partOf l (l .next) + packet ≤ slots) × (packet + 5 ≤ frame) × (packet ≤ 1019))
+    × ((packet ≤ limitOf (l .settings)) × (partOf l (l .next) + limitOf (l .settings) ≤ slots))
+    × ((packet + 5 ≤ frame) × (packet ≤ 1019))
 
 -- ---- the call
 

@@ -7,6 +7,7 @@ ghost use mathlib.Core.Path.{_≡_};
 ghost use Prim.Native.Nat.{_+_, _≤_, _<_};
 ghost use lib.ListN.{length};
 ghost use Rattle.base.specs.Buffer.{put};
+ghost use Rattle.state.specs.Bounds.{limitOf};
 ghost use Rattle.state.specs.Gate.{after};
 ghost use Rattle.frame.specs.Bytes.{Written};
 ghost use Rattle.state.specs.State.{lengthOf, repeatedOf};
@@ -188,12 +189,14 @@ fn add(l: Link, packet: u16) -> Link
     k
 }
 
-// The slot's part of the slot buffer is lent onward to the copier.
+// The slot's part of the slot buffer, m bytes from where the slot begins, is lent onward to the copier.
 fn store(l: Link, slots: &mut [u8], packet: &[u8])
-    requires { ⌜ (1 ≤ l .settings .window) × (l .settings .window ≤ 2) × (partOf l (l .next) + length (now packet) ≤ length (now slots)) ⌝ }
+    requires { ⌜ ((1 ≤ l .settings .window) × (l .settings .window ≤ 2)) × ((length (now packet) ≤ limitOf (l .settings)) × (partOf l (l .next) + limitOf (l .settings) ≤ length (now slots))) ⌝ }
     ensures { λ _. ⌜ now (slots .exit) ≡ put (now (slots .entry)) (partOf l (l .next)) (now (packet .entry)) ⌝ }
 {
-    buffer::copy_at(slots, part_of(l, l.next), packet);
+    let at = part_of(l, l.next);
+    let end = at + state::limit(l.settings);
+    buffer::copy_at(&mut slots[at..end], 0, packet);
 }
 
 fn write_first(l: Link, frame: &mut [u8], packet: &[u8]) -> u16
