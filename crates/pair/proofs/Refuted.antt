@@ -111,7 +111,7 @@ abbrev skip : List Step
 skip = desk (submits-at 0 loanA) ∷ chip loses ∷ desk (submits-at 1 loanB) ∷ chip (takes-at 2) ∷ []
 
 skips : FirstSoMany (withTake overGap) → ⊥
-unfolding submitted overGap frameTaken freshOf put frameOf checksumOf
+unfolding submitted frameTaken freshOf put frameOf checksumOf
 skips f = let wrong : Calls Link = withTake overGap in less 0xA1 0xB2 (omega arith) (sym (ap (byteOf 0 1) (f settings (run wrong skip) (reached wrong skip) .0)))
 
 -- ---- the clock is compared by size: the desk submits loan A 20 ms before the clock wraps, its frame is lost, and its timer, due 80 ms after the

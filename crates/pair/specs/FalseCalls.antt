@@ -16,17 +16,16 @@ use Rattle.state.specs.declared.Outcome.{Outcome}
 use Rattle.state.specs.Bounds.{slotsNeed}
 use Rattle.state.specs.Fields.{withExpected}
 use Rattle.state.specs.State.{freshOf, slotOf}
-use Rattle.state.specs.Gate.{After, after, refused}
+use Rattle.state.specs.Gate.{After, after}
 use Rattle.state.specs.Calls.{resynchronised}
 use Rattle.send.specs.Submit.{submitted}
 use Rattle.send.specs.Makers.{concluded, sendsAck}
 use Rattle.receive.specs.Take.{frameTaken}
-use Rattle.clock.specs.declared.Looked.{Looked}
 use Rattle.clock.specs.Look.{looking, looked, acknowledgedNow}
-use Rattle.link.specs.FalseEnds.{Call, refusing, repeating, idle, pretending, inventing, overGap, lookedWhen, bySize, bySizeWrapped}
+use Rattle.link.specs.FalseEnds.{Call, LookCall, outcomeOf, lookBut, refuse, refusing, repeating, idle, pretending, inventing, overGap, lookedWhen, bySize, bySizeWrapped}
 use Rattle.pair.specs.System.{Calls, swap, withQueue}
 use Rattle.pair.specs.Demand3.{FirstSoManyOf, FirstSoMany, Within24, RoundsExist, Demand3}
-use Rattle.pair.specs.TrueCalls.{System, linkOf, lookTold, trueCalls}
+use Rattle.pair.specs.TrueCalls.{System, linkOf, trueCalls}
 use Rattle.pair.specs.Run.{settings, loanA, loanB}
 use Rattle.pair.specs.History.{Step, desk, chip, submits-at, takes-at, looks-at, acknowledges-now, told, run}
 
@@ -38,7 +37,7 @@ withSubmit call = linkOf call frameTaken looked acknowledgedNow resynchronised
 abbrev pub withTake : Call → Calls Link
 withTake call = linkOf submitted call looked acknowledgedNow resynchronised
 
-abbrev pub withLook : (Link → List ℕ → List ℕ → ℕ → After Looked) → Calls Link
+abbrev pub withLook : LookCall → Calls Link
 withLook call = linkOf submitted frameTaken call acknowledgedNow resynchronised
 
 -- ---- "Repeating stored frame bytes: an old ACK three numbers back reads as one ahead."
@@ -66,9 +65,9 @@ unfoldable pub takenKept : Call
 unfolding frameTaken asKept
 takenKept l slots frame ms received = asKept l (frameTaken l slots frame ms received)
 
-unfoldable pub lookedKept : Link → List ℕ → List ℕ → ℕ → After Looked
+unfoldable pub lookedKept : LookCall
 unfolding looked asKept
-lookedKept l slots frame ms = looking (asKept l (lookTold (looked l slots frame ms)))
+lookedKept l slots frame ms = looking (asKept l (outcomeOf (looked l slots frame ms)))
 
 abbrev pub storing : Calls Link
 storing = linkOf keeping takenKept lookedKept acknowledgedNow resynchronised
@@ -138,11 +137,10 @@ pub record LineKept : Type 0 where
 -- every call refuses, by whatever number but 0. "The first takes none, so demand 2 alone shuts it out."
 abbrev pub refusingAll : ℕ → Calls Link
 refusingAll answer =
-    linkOf (refusing answer) (refusing answer) (λ l slots frame ms. looking (refused l answer slots frame)) (λ l slots frame. refused l answer slots frame)
-    (λ l slots frame. refused l answer slots frame)
+    linkOf (refusing answer) (refusing answer) (lookBut (refuse answer)) (refuse answer acknowledgedNow) (refuse answer resynchronised)
 
 -- every look sends an ACK: no round ends, so the second half holds of nothing
-abbrev pub chatting : Link → List ℕ → List ℕ → ℕ → After Looked
+abbrev pub chatting : LookCall
 chatting l slots frame ms = looking (concluded (sendsAck l frame) done 0 slots)
 
 -- The supplier's fault: the deadline wraps and is compared with the clock by size. 20 ms before the wrap the timer of a packet just sent is due at

@@ -10,9 +10,8 @@ use Rattle.state.specs.Gate.{After, after}
 use Rattle.state.specs.Calls.{resynchronised}
 use Rattle.send.specs.Submit.{submitted}
 use Rattle.receive.specs.Take.{frameTaken}
-use Rattle.clock.specs.declared.Looked.{Looked}
 use Rattle.clock.specs.Look.{looked, acknowledgedNow}
-use Rattle.link.specs.FalseEnds.{Call}
+use Rattle.link.specs.FalseEnds.{Call, LookCall, Bare, outcomeOf}
 use Rattle.pair.specs.System as Any
 use Rattle.pair.specs.System.{Told, Calls}
 use Rattle.pair.specs.Round as AnyRound
@@ -23,18 +22,14 @@ abbrev pub read : After Outcome → After (Told Link)
 read a =
     after (record { state = a .told .state; sent = a .told .sent; delivered = a .told .delivered; answer = a .told .answer }) (a .slots) (a .frame)
 
-abbrev pub lookTold : After Looked → After Outcome
-lookTold a = after (a .told .outcome) (a .slots) (a .frame)
-
 -- the link of five calls, whose state is what it is seen as; `freshOf` is what start gives with answer 0 (`started`, state)
-abbrev pub linkOf : Call → Call → (Link → List ℕ → List ℕ → ℕ → After Looked) → (Link → List ℕ → List ℕ → After Outcome) → (Link → List ℕ → List ℕ → After Outcome)
-    → Calls Link
+abbrev pub linkOf : Call → Call → LookCall → Bare → Bare → Calls Link
 linkOf submit take look acknowledge resynchronise = record {
   seen = λ l. l;
   fresh = freshOf;
   submit = λ l slots frame ms packet. read (submit l slots frame ms packet);
   take = λ l slots frame ms received. read (take l slots frame ms received);
-  look = λ l slots frame ms. read (lookTold (look l slots frame ms));
+  look = λ l slots frame ms. read (outcomeOf (look l slots frame ms));
   acknowledge = λ l slots frame. read (acknowledge l slots frame);
   resynchronise = λ l slots frame. read (resynchronise l slots frame);
 }
@@ -72,7 +67,7 @@ abbrev pub takes : System → List ℕ → ℕ → List ℕ → List (List ℕ) 
 takes = Any.takes trueCalls
 
 abbrev pub lookOf : System → List ℕ → ℕ → After Outcome
-lookOf S frame ms = lookTold (looked (S .here .state) (S .here .slots) frame ms)
+lookOf S frame ms = outcomeOf (looked (S .here .state) (S .here .slots) frame ms)
 
 abbrev pub looks : System → List ℕ → ℕ → System
 looks = Any.looks trueCalls
