@@ -144,8 +144,8 @@ abbrev pub chatting : LookCall
 chatting l slots frame ms = looking (concluded (sendsAck l frame) done 0 slots)
 
 -- The supplier's fault: the deadline wraps and is compared with the clock by size. 20 ms before the wrap the timer of a packet just sent is due at
--- once: the repeats are spent within a millisecond, nothing being lost or damaged, and the link is declared lost. Demand 3 asks that no link be
--- lost, so it has nothing to say of this end; the equation of `looked` has (`FalseEnds`, link).
+-- once: the repeats are spent within a millisecond, nothing being lost or damaged, and the link is declared lost. The second half asks that no link
+-- be lost, so it has nothing to say here; the equation of `looked` has (`by-size-wrapped`, link).
 abbrev pub hasty : List Step
 hasty = desk (submits-at 4294967276 loanA) ∷ desk (looks-at 4294967276) ∷ desk (looks-at 4294967276) ∷ desk (looks-at 4294967276) ∷ []
 
