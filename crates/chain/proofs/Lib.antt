@@ -1,3 +1,4 @@
 pub mod Parts
 pub mod Chains
 pub mod Rejoining
+pub mod Shut

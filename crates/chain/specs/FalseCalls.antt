@@ -1,0 +1,147 @@
+-- Ways to cut and to join that the contracts shut out; proofs/Shut.antt shows it. A contract is an equation with `cutOut` or `joined` on every
+-- input, so a call that is to meet it is that function. Each wrong one here is a function too, the true one but for one thing, and ShutOut says
+-- that it is not the true one.
+use Prim.Native.Nat.{ℕ, _+_, _≤_}
+use mathlib.Core.Bool.{Bool, cond, _&&_}
+use mathlib.Core.List.{List, [], _∷_, _++_}
+use mathlib.Core.Logic.{_≢_}
+use lib.ListN.{length, take, set}
+use lib.Dec.{eqb}
+use Rattle.base.specs.Answer.{done, messageSize, noSuchPacket, securedPacket, tooLong}
+use Rattle.base.specs.Buffer.{put}
+use Rattle.chain.specs.declared.Joining.{Joining}
+use Rattle.chain.specs.Pctr.{onlyChannel, pctrOf, whole}
+use Rattle.chain.specs.Cut.{packetCount, Cutting, cutting, given, cutOut}
+use Rattle.chain.specs.Join.{closed, Joins, joins, joined}
+
+-- ---- cut
+
+abbrev pub CutCall : Type 0
+CutCall = ℕ → List ℕ → ℕ → List ℕ → Cutting
+
+-- cut, with what it leaves changed, by the length of the message, the packet's number and the buffer that was lent
+abbrev pub cutBut : (ℕ → ℕ → List ℕ → Cutting → Cutting) → CutCall
+cutBut change m message i buffer = change (length message) i buffer (cutOut m message i buffer)
+
+-- document 01's five: it refuses everything, by whatever number (done: it does nothing, and claims to have done it), ..
+abbrev pub cutRefusing : ℕ → CutCall
+cutRefusing answer m message i buffer = cutting (record { count = 0; length = 0; answer = answer }) buffer
+
+-- .. always gives the same packet, ..
+abbrev pub cutRepeating : List ℕ → CutCall
+cutRepeating same =
+    cutBut (λ message i buffer right.
+    cutting (record { count = right .told .count; length = length same; answer = right .told .answer }) (put buffer 0 same))
+
+-- .. gives the first and then only pretends, ..
+abbrev pub cutPretending : CutCall
+cutPretending = cutBut (λ message i buffer right. cutting (right .told) (cond (eqb i 0) (right .buffer) buffer))
+
+-- .. tells so many more packets, or bytes
+abbrev pub cutInventing : ℕ → ℕ → CutCall
+cutInventing count bytes =
+    cutBut (λ message i buffer right.
+    cutting (record { count = right .told .count + count; length = right .told .length + bytes; answer = right .told .answer }) (right .buffer))
+
+-- content with a buffer of one byte less: it does as the true call does with one byte more, and gives back as many as were lent
+abbrev pub cutSparing : CutCall
+cutSparing m message i buffer =
+    let longer : Cutting = cutOut m message i (buffer ++ (0 ∷ [])) in
+    cutting (longer .told) (take (length buffer) (longer .buffer))
+
+-- one packet more than there are
+abbrev pub cutPastLast : CutCall
+cutPastLast m message i buffer =
+    let right : Cutting = cutOut m message i buffer in
+    cond (eqb (right .told .answer) noSuchPacket && eqb i (packetCount m (length message))) (given m onlyChannel message i buffer) right
+
+-- an empty message as one packet, of PCTR alone
+abbrev pub cutEmpty : CutCall
+cutEmpty =
+    cutBut (λ message i buffer right.
+    cond (eqb (right .told .answer) messageSize && eqb message 0)
+    (cutting (record { count = 1; length = 1; answer = done }) (put buffer 0 (pctrOf onlyChannel whole ∷ []))) right)
+
+-- "Bytes of a lent buffer past what a call writes stay.": a byte, whatever it is, goes right behind the packet ..
+abbrev pub cutOverrunning : ℕ → CutCall
+cutOverrunning byte =
+    cutBut (λ message i buffer right. cond (eqb (right .told .answer) done) (cutting (right .told) (set (right .buffer) (right .told .length) byte)) right)
+
+-- .. or to the start of the buffer, where cut refuses
+abbrev pub cutSmearing : ℕ → CutCall
+cutSmearing byte = cutBut (λ message i buffer right. cond (eqb (right .told .answer) done) right (cutting (right .told) (set buffer 0 byte)))
+
+pub record CutShut : Type 0 where
+  pub refuses : (answer : ℕ) → answer ≢ done → cutRefusing answer ≢ cutOut
+  pub repeats : (same : List ℕ) → cutRepeating same ≢ cutOut
+  pub idles : cutRefusing done ≢ cutOut
+  pub pretends : cutPretending ≢ cutOut
+  pub invents : (count bytes : ℕ) → 1 ≤ count + bytes → cutInventing count bytes ≢ cutOut
+  pub short-buffer : cutSparing ≢ cutOut
+  pub past-the-last : cutPastLast ≢ cutOut
+  pub empty-message : cutEmpty ≢ cutOut
+  pub behind-the-packet : (byte : ℕ) → cutOverrunning byte ≢ cutOut
+  pub on-refusal : (byte : ℕ) → cutSmearing byte ≢ cutOut
+
+-- ---- join
+
+abbrev pub JoinCall : Type 0
+JoinCall = ℕ → Joining → List ℕ → List ℕ → Joins
+
+-- join, with what it leaves changed, by the state and the room that were handed in
+abbrev pub joinBut : (Joining → List ℕ → Joins → Joins) → JoinCall
+joinBut change m j packet room = change j room (joined m j packet room)
+
+-- an outcome with another state, and with another length told
+abbrev pub leaving : Joining → ℕ → Joins → Joins
+leaving j len a = joins (record { state = j; length = len; answer = a .told .answer; fault = a .told .fault }) (a .room)
+
+-- the same five: it refuses everything, or does nothing, ..
+abbrev pub joinRefusing : ℕ → JoinCall
+joinRefusing answer m j packet room = joins (record { state = j; length = 0; answer = answer; fault = 0 }) room
+
+-- .. always gives the same message, ..
+abbrev pub joinRepeating : List ℕ → JoinCall
+joinRepeating same =
+    joinBut (λ j room right. joins (leaving (right .told .state) (length same) right .told) (put room 0 same))
+
+-- .. joins the first packet of a message and then only pretends, ..
+abbrev pub joinPretending : JoinCall
+joinPretending = joinBut (λ j room right. joins (right .told) (cond (j .opened) room (right .room)))
+
+-- .. tells so many more bytes
+abbrev pub joinInventing : ℕ → JoinCall
+joinInventing bytes = joinBut (λ j room right. leaving (right .told .state) (right .told .length + bytes) right)
+
+-- content with a room of one byte less
+abbrev pub joinSparing : JoinCall
+joinSparing m j packet room =
+    let longer : Joins = joined m j packet (room ++ (0 ∷ [])) in
+    joins (longer .told) (take (length room) (longer .room))
+
+-- another state with an answer: 12 that drops the chain (with 12 none is open, or it were 10: what a state may still have is a length), ..
+abbrev pub securedDrops : JoinCall
+securedDrops = joinBut (λ j room right. cond (eqb (right .told .answer) securedPacket) (leaving (closed j) (right .told .length) right) right)
+
+-- .. or 14 that keeps it
+abbrev pub tooLongKeeps : JoinCall
+tooLongKeeps = joinBut (λ j room right. cond (eqb (right .told .answer) tooLong) (leaving j (right .told .length) right) right)
+
+-- a byte goes to the start of the room, where join refuses
+abbrev pub joinSmearing : ℕ → JoinCall
+joinSmearing byte = joinBut (λ j room right. cond (eqb (right .told .answer) done) right (joins (right .told) (set room 0 byte)))
+
+pub record JoinShut : Type 0 where
+  pub refuses : (answer : ℕ) → answer ≢ done → joinRefusing answer ≢ joined
+  pub repeats : (same : List ℕ) → joinRepeating same ≢ joined
+  pub idles : joinRefusing done ≢ joined
+  pub pretends : joinPretending ≢ joined
+  pub invents : (bytes : ℕ) → 1 ≤ bytes → joinInventing bytes ≢ joined
+  pub short-room : joinSparing ≢ joined
+  pub secured-drops : securedDrops ≢ joined
+  pub too-long-keeps : tooLongKeeps ≢ joined
+  pub on-refusal : (byte : ℕ) → joinSmearing byte ≢ joined
+
+pub record ShutOut : Type 0 where
+  pub cut : CutShut
+  pub join : JoinShut
