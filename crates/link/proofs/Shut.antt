@@ -1,9 +1,9 @@
--- The false ends of specs/FalseEnds.antt, each tried at one state, by computing. Assumes nothing.
+-- The false ends of specs/FalseEnds.antt, each tried at one input, of numbers and bytes that code can hold, by computing. Assumes nothing.
 use mathlib.Core.Path.{_≡_, refl, ap}
 use mathlib.Core.Logic.{_≢_}
 use mathlib.Core.Bool.{Bool, true, false, cond}
 use mathlib.Core.List.{List, [], _∷_}
-use Prim.Native.Nat.{ℕ, suc, _+_, _-_, _≤_}
+use Prim.Native.Nat.{ℕ, suc, _+_, _-_, _%_, _≤_}
 use native.Mathlib.Omega.{arith}
 use borrow.Author.Tests.{eqb-false}
 use lib.ListN.{length, getD, replicate}
@@ -94,8 +94,12 @@ each change read submit take look acknowledge resynchronise = record {
 same-less-same : (n k : ℕ) → n - n ≢ suc k
 same-less-same n k e = omega (arith, e)
 
-one-more : (n : ℕ) → n ≢ suc n
-one-more n e = omega (arith, e)
+-- another byte than this
+abbrev other : ℕ → ℕ
+other byte = (byte + 1) % 256
+
+other-differs : (byte : ℕ) → byte ≢ other byte
+other-differs byte e = omega (arith, e)
 
 none-invented : (n k : ℕ) → 1 ≤ n + k → 0 + n + (0 + k) ≢ 0
 none-invented n k more e = omega (arith, more, e)
@@ -122,7 +126,7 @@ shut-out-alone = record {
 pub shut-out : ShutOut
 unfolding started submitted frameTaken looked acknowledgedNow resynchronised lookedWhen freshOf put frameOf checksumOf
 shut-out = record {
-  refuses = λ answer other. each (refuse answer) (λ call. call one slots buffer .told .answer) other other other other other;
+  refuses = λ answer differs. each (refuse answer) (λ call. call one slots buffer .told .answer) differs differs differs differs differs;
   repeats = λ same.
       each (repeat same) (λ call. call one slots buffer .told .sent - call one slots [] .told .sent)
       (same-less-same (length same) 5)
@@ -154,16 +158,16 @@ shut-out = record {
       let wrong : _≢_ {A = ℕ} 0 2 = eqb-false 0 2 refl in
       each spareFrame (λ call. call one slots (replicate 15 0) .told .answer) wrong wrong wrong wrong wrong;
   past-the-frame = λ byte.
-      let wrong : byte ≢ suc byte = one-more byte in
-      each (overrun byte) (λ call. let a : After Outcome = call one slots (replicate 16 (suc byte)) in getD (a .frame) (a .told .sent) 0) wrong wrong wrong wrong wrong;
+      let wrong : byte ≢ other byte = other-differs byte in
+      each (overrun byte) (λ call. let a : After Outcome = call one slots (replicate 16 (other byte)) in getD (a .frame) (a .told .sent) 0) wrong wrong wrong wrong wrong;
   on-refusal = λ byte.
-      let wrong : byte ≢ suc byte = one-more byte in
-      each (smear byte) (λ call. getD (call one [] (suc byte ∷ []) .frame) 0 0) wrong wrong wrong wrong wrong;
+      let wrong : byte ≢ other byte = other-differs byte in
+      each (smear byte) (λ call. getD (call one [] (other byte ∷ []) .frame) 0 0) wrong wrong wrong wrong wrong;
   lost-before-short =
       let wrong : _≢_ {A = ℕ} 3 2 = eqb-false 3 2 refl in
       each lostFirst (λ call. call (withLost one true) [] [] .told .answer) wrong wrong wrong wrong wrong;
   start = record {
-    refuses = λ answer other same. other (ap (λ (f : StartCall). f (settings 2) 22 .answer) same);
+    refuses = λ answer differs same. differs (ap (λ (f : StartCall). f (settings 2) 22 .answer) same);
     idles = λ same. eqb-false 0 2 refl (ap (λ (f : StartCall). f (settings 2) 22 .state .settings .window) same);
     invents = λ delivered dropped more same. none-invented delivered dropped more (ap (λ (f : StartCall). f (settings 2) 22 .delivered + f (settings 2) 22 .dropped) same);
     short-slots = λ same. eqb-false 0 2 refl (ap (λ (f : StartCall). f (settings 2) 21 .answer) same);
@@ -173,7 +177,7 @@ shut-out = record {
   };
   submit = record {
     full-before-size = λ same. eqb-false 5 4 refl (ap (λ (f : Call). f two slots buffer 0 [] .told .answer) same);
-    slots-on-refusal = λ byte same. one-more byte (ap (λ (f : Call). getD (f one (suc byte ∷ []) [] 0 packet .slots) 0 0) same);
+    slots-on-refusal = λ byte same. other-differs byte (ap (λ (f : Call). getD (f one (other byte ∷ []) [] 0 packet .slots) 0 0) same);
     slot-by-two = λ same. eqb-false 0 1 refl (ap (λ (f : Call). getD (f (end 1 1 0) slots buffer 0 packet .slots) 0 0) same);
     timer-left = λ same. eqb-false 1 0 refl (ap (λ (f : Call). bit (f one slots buffer 0 packet .told .state .acking)) same);
   };

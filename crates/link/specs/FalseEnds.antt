@@ -1,6 +1,6 @@
 -- Ends that the contracts shut out; proofs/Shut.antt shows it. A contract is an equation with a definition (`started`, `submitted`, ..) on every
 -- input, so a call that is to meet it is that function. Each wrong end here is a function too, the true one but for one thing, and ShutOut and
--- ShutOutAlone say that it is not the true one.
+-- ShutOutAlone say that it is not the true one. (They differ at an input that code can be given: that is where the proofs try them.)
 use Prim.Native.Nat.{ℕ, _+_, _*_, _%_, _≤_}
 use mathlib.Core.Bool.{Bool, true, false, cond, not, _&&_, _||_}
 use mathlib.Core.List.{List, [], _∷_, _++_}
@@ -71,7 +71,7 @@ pub record Shows (change : Change) : Type 0 where
   pub acknowledge : change acknowledgedNow ≢ acknowledgedNow
   pub resynchronise : change resynchronised ≢ resynchronised
 
--- where the true outcome is such a one, another; of the state and the buffers that were handed in, and the true outcome
+-- where the true outcome is such a one, another instead, made of the state and the buffers that were handed in and of the true outcome
 abbrev pub instead : (After Outcome → Bool) → (Link → List ℕ → List ℕ → After Outcome → After Outcome) → Change
 instead such other call l slots frame =
     let right : After Outcome = call l slots frame in
@@ -103,7 +103,7 @@ leaving l a =
 abbrev pub refuse : ℕ → Change
 refuse answer call l slots frame = refused l answer slots frame
 
--- whatever frame that is, and does all else as it should
+-- whatever frame that is, also where none is to be sent; all else is as it should be
 abbrev pub repeat : List ℕ → Change
 repeat same call l slots frame =
     let right : After Outcome = call l slots frame in
@@ -117,7 +117,7 @@ repeat same call l slots frame =
     (right .slots)
     (put frame 0 same)
 
--- all is told as it should be, and nothing is written
+-- once a packet has been sent, all is told as it should be, and nothing is written
 abbrev pub pretend : Change
 pretend call l slots frame =
     let right : After Outcome = call l slots frame in
@@ -138,14 +138,14 @@ invent delivered dropped call l slots frame =
     let right : After Outcome = call l slots frame in
     after (counting delivered dropped (right .told)) (right .slots) (right .frame)
 
--- the five as calls, for the statement of two ends (pair): refusing and idle are of no call more than of another
+-- as calls, for the statement of two ends (pair); refusing and idle are submit and take alike
 abbrev pub refusing : ℕ → Call
 refusing answer = submitBut (refuse answer)
 
 abbrev pub repeating : List ℕ → Call
 repeating same = submitBut (repeat same)
 
--- it claims to have done it
+-- and claims to have done it
 abbrev pub idle : Call
 idle = refusing done
 
@@ -172,7 +172,7 @@ spareFrame call l slots frame =
 abbrev pub overrun : ℕ → Change
 overrun byte = instead sends (λ l slots frame right. after (right .told) (right .slots) (set (right .frame) (right .told .sent) byte))
 
--- it goes to the start of the frame buffer where the call refuses and sends nothing; or to that of the slot buffer
+-- "nothing changed": it goes to the start of the frame buffer, or of the slot buffer, where the call refuses and sends nothing
 abbrev pub refusesSilently : After Outcome → Bool
 refusesSilently a = not (answers done a || sends a)
 
@@ -184,7 +184,7 @@ smearSlots byte = instead refusesSilently (λ l slots frame right. after (right 
 
 -- ---- orders: "link calls 1, 2, 3, then 4, 5 or the frame steps; start 1, 2"
 
--- 3 before 2
+-- 3 before 2; and resynchronise should not ask 3 at all
 abbrev pub lostFirst : Change
 lostFirst call l slots frame = cond (wellFormed l && l .lost) (refused l linkLost slots frame) (call l slots frame)
 
@@ -209,7 +209,7 @@ startInventing delivered dropped s slots = counting delivered dropped (started s
 abbrev pub startSparing : StartCall
 startSparing s slots = started s (slots + 1)
 
--- another state than "a state of zeros" with an answer
+-- with this answer another state than "a state of zeros"
 abbrev pub startLeaving : Link → ℕ → StartCall
 startLeaving other answer s slots =
     let right : Outcome = started s slots in
@@ -220,20 +220,20 @@ startLeaving other answer s slots =
 -- the packet goes to "the slot numbered (frame number modulo" 2, whatever WIN_SIZE is
 abbrev pub slotByTwo : Call
 slotByTwo l slots frame ms packet =
-    submitBut (instead (answers done)
-    (λ l slots frame right. after (right .told) (put slots (l .next % 2 * limitOf (l .settings)) packet) (right .frame))) l slots frame ms packet
+    let right : After Outcome = submitted l slots frame ms packet in
+    cond (answers done right) (after (right .told) (put slots (l .next % 2 * limitOf (l .settings)) packet) (right .frame)) right
 
--- "Each data frame, also a repeated one, .. stops the acknowledge timer."; "Every control ACK stops the acknowledge timer": a frame of such a kind
--- does not
+-- "Each data frame, also a repeated one, .. stops the acknowledge timer."; "Every control ACK stops the acknowledge timer": one of such a kind
+-- leaves it as it was
 abbrev pub timerLeft : (After Outcome → Bool) → Change
 timerLeft kind = instead kind (λ l slots frame right. leaving (withAcking (right .told .state) (l .acking)) right)
 
--- a lost end that hears a reset
+-- a lost end hears a reset, and nothing else
 abbrev pub hearsReset : Call
 hearsReset l slots frame ms received =
     frameTaken (cond (sameBytes received (resetFrame (l .settings .format))) (withLost l false) l) slots frame ms received
 
--- step 3: "8, dropped, nothing sent"
+-- step 3, "8, dropped, nothing sent", with a NAK
 abbrev pub naksStep3 : Call
 naksStep3 = takeBut (instead (answers controlSize) (λ l slots frame right. refusedWithNak l slots frame ControlSize))
 
@@ -243,17 +243,19 @@ overGap l slots frame ms received =
     let ahead : After Outcome = frameTaken (withExpected l ((l .expected + 1) % 4)) slots frame ms received in
     cond (eqb (ahead .told .delivered) 0) (frameTaken l slots frame ms received) ahead
 
--- where the oldest packet is due and has been repeated TRANS_REPEAT times, the newer is served
+-- where the oldest packet is due and has been repeated TRANS_REPEAT times, the newer is looked at
 abbrev pub passesOver : LookCall
-passesOver l slots frame ms = lookBut (instead (λ right. answers linkLost right && not (l .lost)) (λ l slots frame right. lookedNewer l slots frame ms)) l slots frame ms
+passesOver l slots frame ms =
+    let right : After Looked = looked l slots frame ms in
+    cond (answers linkLost (outcomeOf right) && not (l .lost)) (looking (lookedNewer l slots frame ms)) right
 
--- "(all but start and resynchronise)": this one answers 3
+-- 3 is for "link lost, now or before (all but start and resynchronise)": resynchronise answers it too
 abbrev pub staysLost : Bare
 staysLost = instead (answers done) (λ l slots frame right. cond (l .lost) (refused l linkLost slots frame) right) resynchronised
 
 -- ---- look by another test
 
--- looked, with another test of timeout, start time and clock than `due` (state)
+-- looked, with this test of timeout, start time and clock in the place of `due` (state)
 unfoldable pub lookedWhen : (ℕ → ℕ → ℕ → Bool) → LookCall
 unfolding gateOf
 lookedWhen test l slots frame ms =
@@ -263,51 +265,52 @@ lookedWhen test l slots frame ms =
     (cond (packet 0) (served l slots frame ms (sentBefore l 0))
     (acknowledgedIf (l .acking && test (l .settings .acktimeout) (l .ackstart) ms) l slots frame))))
 
--- it is looked but for the test
+-- by the true test it is looked
 abbrev pub LookedWhenTrue : Type 0
 LookedWhenTrue = lookedWhen due ≡ looked
 
--- "Comparing deadline and clock by size.": a deadline that wraps is over at once where it wraps, ..
+-- "Comparing deadline and clock by size.": with a deadline that wraps a timer is due at once just before the wrap, ..
 abbrev pub bySizeWrapped : ℕ → ℕ → ℕ → Bool
 bySizeWrapped timeout start ms = leb ((start + timeout) % 4294967296) ms
 
--- .. and one that does not is never reached by a clock that does
+-- .. with one that does not wrap a timer that is to be due past the wrap never is
 abbrev pub bySize : ℕ → ℕ → ℕ → Bool
 bySize timeout start ms = leb (start + timeout) ms
 
--- ---- seven that a statement of two ends (pair) does not see
+-- ---- seven that the statement of two ends (pair) does not see: the contracts alone shut them out
 
--- a NAK of such a kind, obeyed as it should be, is taken as an acknowledgement of the packet before, too
+-- an accepted NAK k, in a frame of such an FCTR, is obeyed as it should be, and then taken as ACK k − 1, too
 abbrev pub nakFrees : (ℕ → Bool) → Call
 nakFrees kind l slots frame ms received =
+    let right : After Outcome = frameTaken l slots frame ms received in
     let fctr : ℕ = fctrOf received in
-    takeBut (instead (λ right. (answers done right || answers unexpected right) && isNak fctr && kind fctr)
-    (λ l slots frame right. leaving (freed (right .told .state) ((acknowledgedOf fctr + 3) % 4)) right)) l slots frame ms received
+    cond ((answers done right || answers unexpected right) && (isNak fctr && kind fctr))
+    (leaving (freed (right .told .state) ((acknowledgedOf fctr + 3) % 4)) right) right
 
--- an ACK that would free two, of which it names the newer, frees none
+-- ACK k is obeyed only if k is the oldest: one that would free two, the most that wait, frees none
 abbrev pub oldestOnly : Call
 oldestOnly =
     takeBut (instead (λ right. eqb (right .told .dropped) 0)
     (λ l slots frame right.
     leaving (cond (ltb (right .told .state .waiting + 1) (l .waiting)) (withWaiting (right .told .state) (l .waiting)) (right .told .state)) right))
 
--- "is sent at most once until the next delivery"
+-- a NAK "is sent at most once until the next delivery": the mark outlives it
 abbrev pub keepsMark : Call
 keepsMark =
     takeBut (instead (λ right. not (eqb (right .told .delivered) 0))
     (λ l slots frame right. leaving (withNakmark (right .told .state) (l .nakmark)) right))
 
--- step 7 with something else sent than the ACK
+-- step 7, "an ACK for the last correct number goes out", with something else sent
 abbrev pub forDuplicate : (Link → List ℕ → Sending) → Call
 forDuplicate send =
     takeBut (instead (λ right. answers unexpected right && sendsControl right)
     (λ l slots frame right. concluded (send (withAcking (right .told .state) (l .acking)) frame) unexpected 0 slots))
 
--- look sends no control ACK
+-- of look: no control ACK is sent, and the timer runs on ..
 abbrev pub neverAcks : Change
 neverAcks = instead sendsControl (λ l slots frame right. refused l done slots frame)
 
--- look repeats no packet, and the link is lost where it should
+-- .. or no packet is repeated, and the link is lost instead
 abbrev pub losesAtOnce : Change
 losesAtOnce = instead sendsData (λ l slots frame right. exhausted l slots frame)
 
