@@ -3,12 +3,11 @@ use mathlib.Core.Path.{_≡_, refl, ap}
 use mathlib.Core.Logic.{_≢_}
 use mathlib.Core.Bool.{true, false}
 use mathlib.Core.List.{List, [], _∷_}
-use Prim.Native.Nat.{ℕ, suc, _+_, _-_, _%_, _≤_}
+use Prim.Native.Nat.{ℕ, suc, _+_, _-_, _%_}
 use native.Mathlib.Omega.{arith}
 use borrow.Author.Tests.{eqb-false}
 use lib.ListN.{length, getD, replicate}
 use Rattle.base.specs.Buffer.{put}
-use Rattle.chain.specs.declared.Joining.{Joining}
 use Rattle.chain.specs.Cut.{cutOut}
 use Rattle.chain.specs.Join.{freshJoining, joined}
 use Rattle.chain.specs.FalseCalls.{CutCall, CutShut, JoinCall, JoinShut, ShutOut}

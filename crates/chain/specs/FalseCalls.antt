@@ -2,7 +2,7 @@
 -- input, so a call that is to meet it is that function. Each wrong one here is a function too, the true one but for one thing, and ShutOut says
 -- that it is not the true one.
 use Prim.Native.Nat.{ℕ, _+_, _≤_}
-use mathlib.Core.Bool.{Bool, cond, _&&_}
+use mathlib.Core.Bool.{cond, _&&_}
 use mathlib.Core.List.{List, [], _∷_, _++_}
 use mathlib.Core.Logic.{_≢_}
 use lib.ListN.{length, take, set}

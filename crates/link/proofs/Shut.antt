@@ -1,5 +1,5 @@
 -- The false ends of specs/FalseEnds.antt, each tried at one input, of numbers and bytes that code can hold, by computing. Assumes nothing.
-use mathlib.Core.Path.{_≡_, refl, ap}
+use mathlib.Core.Path.{refl, ap}
 use mathlib.Core.Logic.{_≢_}
 use mathlib.Core.Bool.{Bool, true, false, cond}
 use mathlib.Core.List.{List, [], _∷_}
@@ -14,7 +14,7 @@ use Rattle.frame.specs.Bytes.{frameOf, dataFrame, ackFrame, nakFrame, resetFram
 use Rattle.state.specs.declared.Settings.{Settings}
 use Rattle.state.specs.declared.Link.{Link}
 use Rattle.state.specs.declared.Outcome.{Outcome}
-use Rattle.state.specs.Fields.{withStarts, withRepeated, withWaiting, withAcking, withNakmark, withLost}
+use Rattle.state.specs.Fields.{withStarts, withRepeated, withExpected, withAcking, withNakmark, withLost}
 use Rattle.state.specs.State.{freshOf}
 use Rattle.state.specs.Gate.{After}
 use Rattle.state.specs.Calls.{started, resynchronised}
@@ -176,12 +176,18 @@ shut-out = record {
     other-state-with-2 = λ other differs same. differs (ap (λ (f : StartCall). f (settings 2) 0 .state) same);
   };
   submit = record {
+    repeats-where-sent = λ bytes same.
+        same-less-same (getD (put buffer 0 bytes) 3 0) 0
+        (ap (λ (f : Call). getD (f one slots buffer 0 (2 ∷ []) .frame) 3 0 - getD (f one slots buffer 0 packet .frame) 3 0) same);
     full-before-size = λ same. eqb-false 5 4 refl (ap (λ (f : Call). f two slots buffer 0 [] .told .answer) same);
     slots-on-refusal = λ byte same. other-differs byte (ap (λ (f : Call). getD (f one (other byte ∷ []) [] 0 packet .slots) 0 0) same);
     slot-by-two = λ same. eqb-false 0 1 refl (ap (λ (f : Call). getD (f (end 1 1 0) slots buffer 0 packet .slots) 0 0) same);
     timer-left = λ same. eqb-false 1 0 refl (ap (λ (f : Call). bit (f one slots buffer 0 packet .told .state .acking)) same);
   };
   take = record {
+    repeats-where-sent = λ bytes same.
+        same-less-same (getD (put buffer 0 bytes) 0 0) 0x7F
+        (ap (λ (f : Call). getD (f one slots buffer 0 (numbered 1) .frame) 0 0 - getD (f one slots buffer 0 (nakFrame format 0) .frame) 0 0) same);
     reset-when-lost = λ same. eqb-false 0 3 refl (ap (λ (f : Call). f (withLost one true) slots buffer 0 (resetFrame format) .told .answer) same);
     nak-in-step-3 = λ same. eqb-false 5 0 refl (ap (λ (f : Call). f one slots buffer 0 (frameOf format 0x80 packet) .told .sent) same);
     over-gap = λ same. eqb-false 1 0 refl (ap (λ (f : Call). f one slots buffer 0 (numbered 3) .told .delivered) same);
@@ -189,6 +195,9 @@ shut-out = record {
     timer-left-by-ack = λ same. eqb-false 1 0 refl (ap (λ (f : Call). bit (f one slots buffer 0 (numbered 1) .told .state .acking)) same);
   };
   look = record {
+    repeats-where-sent = λ bytes same.
+        same-less-same (getD (put buffer 0 bytes) 0 0) 0x7F
+        (ap (λ (f : LookCall). getD (f none slots buffer 100 .frame) 0 0 - getD (f one slots buffer 100 .frame) 0 0) same);
     passed-over = λ same. eqb-false 0 3 refl (ap (λ (f : LookCall). f (withRepeated two (3 ∷ 0 ∷ [])) slots buffer 100 .told .outcome .answer) same);
     timer-left-by-repeat = λ same. eqb-false 1 0 refl (ap (λ (f : LookCall). bit (f one slots buffer 100 .told .outcome .state .acking)) same);
     timer-left-by-ack = λ same. eqb-false 1 0 refl (ap (λ (f : LookCall). bit (f none slots buffer 100 .told .outcome .state .acking)) same);
@@ -198,6 +207,11 @@ shut-out = record {
     by-size = λ same.
         eqb-false 0 6 refl (ap (λ (f : LookCall). f (withStarts (withAcking one false) (4294967276 ∷ 0 ∷ [])) slots buffer 80 .told .outcome .sent) same);
   };
-  acknowledge-leaves-timer = λ same. eqb-false 1 0 refl (ap (λ (f : Bare). bit (f one slots buffer .told .state .acking)) same);
+  acknowledge = record {
+    repeats-where-sent = λ bytes same.
+        same-less-same (getD (put buffer 0 bytes) 0 0) 0
+        (ap (λ (f : Bare). getD (f one slots buffer .frame) 0 0 - getD (f (withExpected one 1) slots buffer .frame) 0 0) same);
+    timer-left = λ same. eqb-false 1 0 refl (ap (λ (f : Bare). bit (f one slots buffer .told .state .acking)) same);
+  };
   resynchronise-when-lost = λ same. eqb-false 3 0 refl (ap (λ (f : Bare). f (withLost one true) slots buffer .told .answer) same);
 }

@@ -2,7 +2,7 @@
 -- input, so a call that is to meet it is that function. Each wrong end here is a function too, the true one but for one thing, and ShutOut and
 -- ShutOutAlone say that it is not the true one. (They differ at an input that code can be given: that is where the proofs try them.)
 use Prim.Native.Nat.{ℕ, _+_, _*_, _%_, _≤_}
-use mathlib.Core.Bool.{Bool, true, false, cond, not, _&&_, _||_}
+use mathlib.Core.Bool.{Bool, false, cond, not, _&&_, _||_}
 use mathlib.Core.List.{List, [], _∷_, _++_}
 use mathlib.Core.Path.{_≡_}
 use mathlib.Core.Logic.{_≢_}
@@ -116,6 +116,10 @@ repeat same call l slots frame =
     })
     (right .slots)
     (put frame 0 same)
+
+-- the same, but only where a frame is to be sent. (Of resynchronise that is right, with the reset frame.)
+abbrev pub repeatWhereSent : List ℕ → Change
+repeatWhereSent same call = instead sends (λ l slots frame right. repeat same call l slots frame) call
 
 -- once a packet has been sent, all is told as it should be, and nothing is written
 abbrev pub pretend : Change
@@ -336,12 +340,14 @@ pub record StartShut : Type 0 where
   pub other-state-with-2 : (other : Link) → other ≢ zeros → startLeaving other shortBuffer ≢ started
 
 pub record SubmitShut : Type 0 where
+  pub repeats-where-sent : (same : List ℕ) → submitBut (repeatWhereSent same) ≢ submitted
   pub full-before-size : fullFirst ≢ submitted
   pub slots-on-refusal : (byte : ℕ) → submitBut (smearSlots byte) ≢ submitted
   pub slot-by-two : slotByTwo ≢ submitted
   pub timer-left : submitBut (timerLeft sendsData) ≢ submitted
 
 pub record TakeShut : Type 0 where
+  pub repeats-where-sent : (same : List ℕ) → takeBut (repeatWhereSent same) ≢ frameTaken
   pub reset-when-lost : hearsReset ≢ frameTaken
   pub nak-in-step-3 : naksStep3 ≢ frameTaken
   pub over-gap : overGap ≢ frameTaken
@@ -349,11 +355,16 @@ pub record TakeShut : Type 0 where
   pub timer-left-by-ack : takeBut (timerLeft sendsControl) ≢ frameTaken
 
 pub record LookShut : Type 0 where
+  pub repeats-where-sent : (same : List ℕ) → lookBut (repeatWhereSent same) ≢ looked
   pub passed-over : passesOver ≢ looked
   pub timer-left-by-repeat : lookBut (timerLeft sendsData) ≢ looked
   pub timer-left-by-ack : lookBut (timerLeft sendsControl) ≢ looked
   pub by-size-wrapped : lookedWhen bySizeWrapped ≢ looked
   pub by-size : lookedWhen bySize ≢ looked
+
+pub record AcknowledgeShut : Type 0 where
+  pub repeats-where-sent : (same : List ℕ) → repeatWhereSent same acknowledgedNow ≢ acknowledgedNow
+  pub timer-left : timerLeft sendsControl acknowledgedNow ≢ acknowledgedNow
 
 pub record ShutOut : Type 0 where
   -- each of the five calls on a state
@@ -372,5 +383,5 @@ pub record ShutOut : Type 0 where
   pub submit : SubmitShut
   pub take : TakeShut
   pub look : LookShut
-  pub acknowledge-leaves-timer : timerLeft sendsControl acknowledgedNow ≢ acknowledgedNow
+  pub acknowledge : AcknowledgeShut
   pub resynchronise-when-lost : staysLost ≢ resynchronised
