@@ -7,6 +7,10 @@ use Rattle.base.proofs.Put.{put-lent}
 use Rattle.send.proofs.store.Statement.{statement}
 use Rattle.send.proofs.store.Tie as tie
 
+-- the packet ends within the slot's part
+copy-at-requires : tie.Need-copy-at-requires
+copy-at-requires c κs = search needs
+
 returns : tie.Need-returns
 returns c =
     let copied = c .before .before in
@@ -27,6 +31,6 @@ store-spec =
     (λ c. search needs)
     (λ c. search needs)
     (λ c. search needs)
-    (λ c κs. search needs)
+    copy-at-requires
     (λ c. search needs)
     returns)
