@@ -6,8 +6,9 @@ use Prim.Native.Nat.{ℕ, zero, suc, _%_, _+_, _*_, _≤_, _<_}
 use native.Mathlib.Omega.{arith}
 use borrow.Author.Tests.{eqb-true, eqb-false}
 use lib.ListN.{length}
-use lib.Dec.{eqb}
-use Rattle.base.specs.Answer.{done, linkLost, unexpected, shortBuffer}
+use lib.Dec.{eqb, ltb}
+use Rattle.base.specs.Answer.{done, outOfRange, linkLost, unexpected, shortBuffer}
+use Rattle.base.proofs.Tests.{cond-cases}
 use Rattle.frame.specs.declared.Format.{Format}
 use Rattle.frame.specs.declared.Heard.{Heard}
 use Rattle.frame.specs.declared.Heard.the-variants.{Size, Sum, Code, ControlSize, Length, Reset, Ack, Nak, Data}
@@ -18,9 +19,10 @@ use Rattle.frame.proofs.Hearing.{ack-heard, nak-heard, number-heard}
 use Rattle.state.specs.declared.Settings.{Settings}
 use Rattle.state.specs.declared.Link.{Link}
 use Rattle.state.specs.declared.Outcome.{Outcome}
-use Rattle.state.specs.Bounds.{slotsNeed, frameNeed}
-use Rattle.state.specs.State.{lastCorrect, sentBefore}
-use Rattle.state.specs.Gate.{After, gated, gateOf}
+use Rattle.state.specs.Bounds.{inRange, slotsNeed, frameNeed}
+use Rattle.state.specs.State.{lastCorrect, sentBefore, freshOf}
+use Rattle.state.specs.Gate.{After, only, gated, gateOf}
+use Rattle.state.specs.Calls.{zeros, started}
 use Rattle.state.specs.Timer.{onward}
 use Rattle.state.specs.Formed.{InRange}
 use Rattle.state.proofs.Facts.{wellFormed-facts}
@@ -33,7 +35,7 @@ use Rattle.receive.proofs.Facts.{repeatable-holds, data-taken}
 use Rattle.pair.specs.System.{swap, IsClock}
 use Rattle.pair.specs.Round.{dueAt, head, none, here, there, carriedIn, nothing, sends-on, round, begin, next}
 use Rattle.pair.specs.Demand3.{RoundsExist, Demand3, CarryingEnds}
-use Rattle.pair.specs.TrueCalls.{trueCalls, System, sentBy, leftBy, takes, lookOf, looks, Enough, Carried, Carries, Looks, Round, Rounds}
+use Rattle.pair.specs.TrueCalls.{trueCalls, StartsFresh, System, sentBy, leftBy, takes, lookOf, looks, Enough, Carried, Carries, Looks, Round, Rounds}
 use Rattle.pair.proofs.Line.{Line, data-next, ack-next, idle-next, Idle, by-size, by-sum, a-nak}
 use Rattle.pair.proofs.Invariant.{Inv, inv-swap}
 use Rattle.pair.proofs.Calls.{heard-there, sent-frame, repeatOf, repeat-size, repeat-heard}
@@ -346,3 +348,10 @@ carrying-ends s S T ms m c k =
 
 pub demand-3 : Demand3 trueCalls
 demand-3 = record { first = first-so-many; within = within-24; exist = rounds-exist }
+
+pub starts-fresh : StartsFresh
+unfolding started
+starts-fresh s slots =
+    let Fresh : Outcome → Type 0 = λ o. o .answer ≡ done → o .state ≡ freshOf s in
+    cond-cases Fresh (not (inRange s)) (only zeros outOfRange) _ (λ e q. absurd (omega (arith, q)))
+    (λ e. cond-cases Fresh (ltb slots (slotsNeed s)) (only zeros shortBuffer) (only (freshOf s) done) (λ k q. absurd (omega (arith, q))) (λ k q. refl))

@@ -1,4 +1,4 @@
--- The links of specs/FalseCalls.antt, each refuted by a history that is computed. Assumes nothing.
+-- The links of `Refuted` and the lines of `LineKept` (specs/FalseCalls.antt), each refuted by a history that is computed. Assumes nothing.
 use mathlib.Core.Path.{_≡_, refl, sym, ap, subst}
 use mathlib.Core.List.{List, [], _∷_, _++_}
 use Prim.Native.Nat.{ℕ, _<_}
@@ -14,7 +14,7 @@ use Rattle.state.specs.Timer.{onward}
 use Rattle.send.specs.Submit.{submitted}
 use Rattle.receive.specs.Take.{frameTaken}
 use Rattle.clock.specs.Look.{looked, acknowledgedNow}
-use Rattle.link.specs.FalseEnds.{repeating, idle, pretending, inventing, overGap, lookedWhen, bySize}
+use Rattle.link.specs.FalseEnds.{repeating, idle, pretending, inventing, overGap, lookBut, neverAcks, lookedWhen, bySize, bySizeWrapped}
 use Rattle.pair.specs.System.{Calls, swap, seenBoth, lookOf, looks, IsClock, Moment, start}
 use Rattle.pair.specs.Round.{Enough, none, Passes, moves, stays, Looks, nothing, Round, round}
 use Rattle.pair.specs.Demand3.{FirstSoMany, Within24, Through, Alive}
@@ -126,6 +126,29 @@ by-size f =
     less 0 1 (omega arith)
     (ap length (left-through (withLook (lookedWhen bySize)) wrap 80 (omega arith) refl refl (moves 0 refl (λ k lt. absurd (omega arith))) (omega arith) (omega arith) (refl, refl) (refl, refl) (record { here = refl; there = refl }) f .forth))
 
+-- ---- the same with a deadline that wraps: the desk submits loan A 101 ms before the clock wraps, its frame is lost, and the deadline is the last
+-- millisecond before the wrap; first looked at after it, that is not reached for 49 days
+
+abbrev wrap-before : List Step
+wrap-before = desk (submits-at 4294967195 loanA) ∷ chip loses ∷ []
+
+by-size-wrapped : Within24 (withLook (lookedWhen bySizeWrapped)) → ⊥
+unfolding submitted lookedWhen freshOf put frameOf checksumOf
+by-size-wrapped f =
+    less 0 1 (omega arith)
+    (ap length (left-through (withLook (lookedWhen bySizeWrapped)) wrap-before 5 (omega arith) refl refl (moves 0 refl (λ k lt. absurd (omega arith))) (omega arith) (omega arith) (refl, refl) (refl, refl) (record { here = refl; there = refl }) f .forth))
+
+-- ---- no ACK that is owed: the chip delivers loan A, its acknowledge timer is due, and the desk's loan waits on
+
+abbrev owe : List Step
+owe = desk (submits-at 0 loanA) ∷ chip (takes-at 1) ∷ []
+
+owes : Within24 (withLook (lookBut neverAcks)) → ⊥
+unfolding submitted frameTaken looked freshOf put frameOf checksumOf
+owes f =
+    less 0 1 (omega arith)
+    (sym (left-through (withLook (lookBut neverAcks)) owe 51 (omega arith) refl refl (moves 0 refl (λ k lt. absurd (omega arith))) (omega arith) (omega arith) (refl, refl) (refl, refl) (record { here = refl; there = refl }) f .window-here))
+
 -- ---- stored frame bytes: the desk's loan A is lost; the chip's first two packets arrive and are acknowledged, its next two are lost; the desk
 -- repeats loan A with the acknowledgement of its first sending, 3, and the chip frees the two that are lost
 
@@ -188,6 +211,8 @@ refuted = record {
   claims = claims;
   skips = skips;
   by-size = by-size;
+  by-size-wrapped = by-size-wrapped;
+  owes = owes;
   forgets = forgets;
   confuses = confuses;
   begins-late = begins-late;

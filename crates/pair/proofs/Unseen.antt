@@ -18,14 +18,16 @@ use Rattle.state.specs.declared.Settings.{Settings}
 use Rattle.state.specs.declared.Link.{Link}
 use Rattle.state.specs.Bounds.{inRange, frameNeed, slotsNeed}
 use Rattle.state.specs.State.{lastCorrect, freshOf}
-use Rattle.state.specs.Gate.{refused}
+use Rattle.state.specs.declared.Outcome.{Outcome}
+use Rattle.state.specs.Gate.{After, after, refused}
 use Rattle.state.specs.Timer.{onward}
 use Rattle.state.specs.Formed.{InRange}
 use Rattle.state.proofs.Facts.{inRange-facts}
 use Rattle.send.specs.Submit.{submitted}
 use Rattle.send.specs.Makers.{concluded, sendsAck}
+use Rattle.receive.specs.Take.{frameTaken}
 use Rattle.clock.specs.Look.{looked}
-use Rattle.link.specs.FalseEnds.{lookedWhen, bySizeWrapped}
+use Rattle.link.specs.FalseEnds.{inventing, lookedWhen, bySizeWrapped}
 use Rattle.pair.specs.System.{swap, lookOf, looks, Harm, lost, damaged, later, IsClock, Move, submit, take-head, look, acknowledge, resynchronise, harm, Moment, start, here, there}
 use Rattle.pair.specs.Round as Rounding
 use Rattle.pair.specs.Round.{Enough, Carried, head, Carries, none, stays, Looks, nothing, sends-on, Round, round, other-first, Rounds, begin, next}
@@ -33,7 +35,7 @@ use Rattle.pair.specs.Demand3.{FirstSoManyOf, FirstSoMany, Within24, Thr
 use Rattle.pair.specs.TrueCalls.{System, sentBy, called, freshSide, trueCalls}
 use Rattle.pair.specs.Run.{settings, slots, moment0}
 use Rattle.pair.specs.History.{run}
-use Rattle.pair.specs.FalseCalls.{withLook, refusingAll, chatting, hasty, Unseen}
+use Rattle.pair.specs.FalseCalls.{withTake, withLook, refusingAll, chatting, hasty, Unseen}
 use Rattle.pair.proofs.Invariant.{Inv, inv-swap, inv-harm, inv-start, inv-first}
 use Rattle.pair.proofs.Calls.{called-turned, inv-acked}
 use Rattle.pair.proofs.Moves.{take-kept, submit-kept, acknowledge-kept, reset-kept}
@@ -189,7 +191,24 @@ module _ (answer : ℕ) (no : answer ≡ done → ⊥) where
     exist = λ s S ms n m c. start-played s S ms n c (begun-moment s S m);
   }
 
--- ---- the supplier's fault, computed
+-- ---- drop counts
+
+no-more : (n : ℕ) → n + 0 ≡ n
+no-more n = omega arith
+
+drops : (dropped : ℕ) → withTake (inventing 0 dropped) ≡ trueCalls
+drops dropped = λ i. record {
+  seen = trueCalls .seen;
+  fresh = trueCalls .fresh;
+  submit = trueCalls .submit;
+  take = λ l slots frame ms received. let right : After Outcome = frameTaken l slots frame ms received in
+      after (record { state = right .told .state; sent = right .told .sent; delivered = no-more (right .told .delivered) i; answer = right .told .answer }) (right .slots) (right .frame);
+  look = trueCalls .look;
+  acknowledge = trueCalls .acknowledge;
+  resynchronise = trueCalls .resynchronise;
+}
+
+-- ---- a deadline that wraps, compared by size, computed
 
 hasty-lost : run (withLook (lookedWhen bySizeWrapped)) hasty .here .state .lost ≡ true
 unfolding submitted lookedWhen freshOf put frameOf checksumOf
@@ -204,6 +223,7 @@ unseen = record {
   refuses = refuses;
   chats = (λ s S m. inv-first s S (chat-moment s S m), λ s S T ms n total m c h k alive. absurd (no-rounds ms n total S T (omega (arith, h)) k));
   chats-on = chats-on;
+  drops = drops;
   loses = hasty-lost;
   keeps = hasty-alive;
 }

@@ -22,7 +22,7 @@ use Rattle.send.specs.Submit.{submitted}
 use Rattle.send.specs.Makers.{concluded, sendsAck}
 use Rattle.receive.specs.Take.{frameTaken}
 use Rattle.clock.specs.Look.{looking, looked, acknowledgedNow}
-use Rattle.link.specs.FalseEnds.{Call, LookCall, outcomeOf, lookBut, refuse, refusing, repeating, idle, pretending, inventing, overGap, lookedWhen, bySize, bySizeWrapped}
+use Rattle.link.specs.FalseEnds.{Call, LookCall, outcomeOf, lookBut, refuse, refusing, repeating, idle, pretending, inventing, overGap, neverAcks, lookedWhen, bySize, bySizeWrapped}
 use Rattle.pair.specs.System.{Calls, swap, withQueue}
 use Rattle.pair.specs.Demand3.{FirstSoManyOf, FirstSoMany, Within24, RoundsExist, Demand3}
 use Rattle.pair.specs.TrueCalls.{System, linkOf, trueCalls}
@@ -88,7 +88,8 @@ late = record {
 -- ---- what each breaks
 
 -- "The fourth also breaks demand 3's second half, and so does the third where it claims to have taken a packet.": `pretends-on`, `claims`.
--- "Delivering the frame after a gap.": `skips`. "Comparing deadline and clock by size.": `by-size`, of a deadline that does not wrap.
+-- "Delivering the frame after a gap.": `skips`. "Comparing deadline and clock by size.": `by-size`, of a deadline that does not wrap, and
+-- `by-size-wrapped`, of one that does. `owes`: look never sends the ACK that is owed.
 pub record Refuted : Type 0 where
   pub repeats : FirstSoMany (withSubmit (repeating (dataFrame (settings .format) 0 3 loanA))) → ⊥
   pub invents : FirstSoMany (withTake (inventing 1 0)) → ⊥
@@ -97,6 +98,8 @@ pub record Refuted : Type 0 where
   pub claims : Within24 (withSubmit idle) → ⊥
   pub skips : FirstSoMany (withTake overGap) → ⊥
   pub by-size : Within24 (withLook (lookedWhen bySize)) → ⊥
+  pub by-size-wrapped : Within24 (withLook (lookedWhen bySizeWrapped)) → ⊥
+  pub owes : Within24 (withLook (lookBut neverAcks)) → ⊥
   pub forgets : Within24 storing → ⊥
   pub confuses : FirstSoMany storing → ⊥
   pub begins-late : FirstSoMany late → ⊥
@@ -143,15 +146,17 @@ refusingAll answer =
 abbrev pub chatting : LookCall
 chatting l slots frame ms = looking (concluded (sendsAck l frame) done 0 slots)
 
--- The supplier's fault: the deadline wraps and is compared with the clock by size. 20 ms before the wrap the timer of a packet just sent is due at
--- once: the repeats are spent within a millisecond, nothing being lost or damaged, and the link is declared lost. The second half asks that no link
--- be lost, so it has nothing to say here; the equation of `looked` has (`by-size-wrapped`, link).
+-- A deadline that wraps, compared with the clock by size, fails in a second way beside `by-size-wrapped`: 20 ms before the wrap the timer of a
+-- packet just sent is due at once. The repeats are spent within a millisecond, nothing being lost or damaged, and the link is declared lost, which
+-- the second half's condition leaves out.
 abbrev pub hasty : List Step
 hasty = desk (submits-at 4294967276 loanA) ∷ desk (looks-at 4294967276) ∷ desk (looks-at 4294967276) ∷ desk (looks-at 4294967276) ∷ []
 
+-- `drops`: how many packets were dropped is in no history, so a link that invents it is to demand 3 the true one
 pub record Unseen : Type 0 where
   pub refuses : (answer : ℕ) → (answer ≡ done → ⊥) → Demand3 (refusingAll answer)
   pub chats : FirstSoMany (withLook chatting) × Within24 (withLook chatting)
   pub chats-on : RoundsExist (withLook chatting) → ⊥
+  pub drops : (dropped : ℕ) → withTake (inventing 0 dropped) ≡ trueCalls
   pub loses : run (withLook (lookedWhen bySizeWrapped)) hasty .here .state .lost ≡ true
   pub keeps : run trueCalls hasty .here .state .lost ≡ false

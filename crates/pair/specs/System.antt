@@ -29,7 +29,8 @@ pub record Told (State : Type 0) : Type 0 where
 
 -- a link: states of any type, and each seen as document 01's; the state that start gives with answer 0; and the calls, each of a state, the
 -- slots, the frame buffer, and what else it is given. The demand is said of any such link: of the one that the contracts are about
--- (TrueCalls.antt) it is proved, of wrong ones (FalseCalls.antt) it is refuted.
+-- (TrueCalls.antt) it is proved, of wrong ones (FalseCalls.antt) it is refuted. Who shows it of another link must show, too, that `seen` is what
+-- its states mean and `fresh` what its start gives: seen as always lost, any link would meet the second half.
 pub record Calls (State : Type 0) : Type 0 where
   pub seen : State → Link
   pub fresh : Settings → State
@@ -160,8 +161,7 @@ abbrev pub IsClock : ℕ → Type 0
 IsClock ms = ms < 4294967296
 
 -- one move of the end here or of the queue towards it, with any millisecond and a frame buffer of any bytes and any length. A resynchronise that
--- is refused is one; one that is done is none, for the end is then fresh and begins a new stretch, and the demand speaks of two ends started
--- fresh.
+-- is refused is one; one that is done is none: what the demand speaks of is then over, until both ends are fresh and nothing is on its way.
 pub data Move {State : Type 0} (calls : Calls State) (S : System State) : System State → Type 0 where
   submit : (frame packet : List ℕ) (ms : ℕ) → IsClock ms → Move calls S (submits calls S frame ms packet)
   take-head : (frame received : List ℕ) (rest : List (List ℕ)) (ms : ℕ) → IsClock ms → S .here .queue ≡ received ∷ rest → Move calls S (takes calls S frame ms received rest)

@@ -2,12 +2,14 @@
 -- that what is proved of it need not name it.
 use Prim.Native.Nat.{ℕ}
 use mathlib.Core.List.{List}
+use mathlib.Core.Path.{_≡_}
+use Rattle.base.specs.Answer.{done}
 use Rattle.state.specs.declared.Settings.{Settings}
 use Rattle.state.specs.declared.Link.{Link}
 use Rattle.state.specs.declared.Outcome.{Outcome}
 use Rattle.state.specs.State.{freshOf}
 use Rattle.state.specs.Gate.{After, after}
-use Rattle.state.specs.Calls.{resynchronised}
+use Rattle.state.specs.Calls.{started, resynchronised}
 use Rattle.send.specs.Submit.{submitted}
 use Rattle.receive.specs.Take.{frameTaken}
 use Rattle.clock.specs.Look.{looked, acknowledgedNow}
@@ -22,7 +24,7 @@ abbrev pub read : After Outcome → After (Told Link)
 read a =
     after (record { state = a .told .state; sent = a .told .sent; delivered = a .told .delivered; answer = a .told .answer }) (a .slots) (a .frame)
 
--- the link of five calls, whose state is what it is seen as; `freshOf` is what start gives with answer 0 (`started`, state)
+-- the link of five calls, whose state is what it is seen as
 abbrev pub linkOf : Call → Call → LookCall → Bare → Bare → Calls Link
 linkOf submit take look acknowledge resynchronise = record {
   seen = λ l. l;
@@ -36,6 +38,10 @@ linkOf submit take look acknowledge resynchronise = record {
 
 abbrev pub trueCalls : Calls Link
 trueCalls = linkOf submitted frameTaken looked acknowledgedNow resynchronised
+
+-- and whose ends begin as start leaves them
+abbrev pub StartsFresh : Type 0
+StartsFresh = (s : Settings) (slots : ℕ) → started s slots .answer ≡ done → started s slots .state ≡ trueCalls .fresh s
 
 -- ---- the names
 
