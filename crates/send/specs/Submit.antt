@@ -55,8 +55,8 @@ packetAccepted l slots frame ms packet =
 
 -- ---- for the contracts of functions inside
 
--- what taking a packet stands on: a slot, a number and a place for one more, the packet fits the slot's part, that lies in
--- the slot buffer, and its frame fits the frame buffer
+-- what taking a packet stands on: a slot, a number and a place for one more; the packet fits the slot's part, which lies in the slot buffer, and
+-- its frame fits the frame buffer
 abbrev pub Acceptable : Link → ℕ → ℕ → ℕ → Type 0
 Acceptable l slots frame packet =
     ((1 ≤ l .settings .window) × (l .settings .window ≤ 2))
