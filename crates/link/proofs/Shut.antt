@@ -2,7 +2,7 @@
 use mathlib.Core.Path.{refl, ap}
 use mathlib.Core.Logic.{_≢_}
 use mathlib.Core.Bool.{Bool, true, false, cond}
-use mathlib.Core.List.{List, [], _∷_}
+use mathlib.Core.List.{List, [], _∷_, _++_}
 use Prim.Native.Nat.{ℕ, suc, _+_, _-_, _%_, _≤_}
 use native.Mathlib.Omega.{arith}
 use borrow.Author.Tests.{eqb-false}
@@ -21,15 +21,18 @@ use Rattle.state.specs.Calls.{started, resynchronised}
 use Rattle.send.specs.Submit.{submitted}
 use Rattle.receive.specs.Take.{frameTaken}
 use Rattle.clock.specs.Look.{looked, acknowledgedNow}
-use Rattle.link.specs.FalseEnds.{StartCall, Call, LookCall, Bare, Change, submitBut, takeBut, outcomeOf, lookBut, Shows, refuse, repeat, pretend, invent, spareSlots, spareFrame, overrun, smear, lostFirst, lookedWhen, LookedWhenTrue, ShutOut, ShutOutAlone}
+use Rattle.link.specs.FalseEnds.{StartCall, Call, LookCall, Bare, Change, submitBut, takeBut, outcomeOf, lookBut, Shows, refuse, repeat, pretend, invent, spareSlots, spareFrame, overrun, smear, lostFirst, refuseDone, stay, oneCount, takenHearing, TakenHearingTrue, lookedBy, lookedWhen, LookedWhenTrue, ShutOut, ShutOutAlone}
 
 -- ---- where they are tried
 
 abbrev format : Format
 format = record { d = 16 }
 
+abbrev timed : ℕ → ℕ → Settings
+timed window acktimeout = record { format = format; transtimeout = 100; acktimeout = acktimeout; window = window; repeats = 3 }
+
 abbrev settings : ℕ → Settings
-settings window = record { format = format; transtimeout = 100; acktimeout = 50; window = window; repeats = 3 }
+settings window = timed window 50
 
 -- an end that has sent so many packets, of which so many wait, each of one byte and sent at 0; it has got two, and the acknowledge timer runs
 -- since 0
@@ -60,6 +63,10 @@ two = end 2 2 2
 -- as many bytes as they need
 abbrev slots : List ℕ
 slots = replicate 22 0
+
+-- packets of two kinds in them
+abbrev filled : List ℕ
+filled = replicate 11 1 ++ replicate 11 2
 
 abbrev buffer : List ℕ
 buffer = replicate 16 0
@@ -106,6 +113,10 @@ none-invented n k more e = omega (arith, more, e)
 
 -- ---- the theorems
 
+pub takenHearing-true : TakenHearingTrue
+unfolding takenHearing frameTaken
+takenHearing-true = refl
+
 pub lookedWhen-true : LookedWhenTrue
 unfolding lookedWhen looked
 lookedWhen-true = refl
@@ -124,7 +135,7 @@ shut-out-alone = record {
 }
 
 pub shut-out : ShutOut
-unfolding started submitted frameTaken looked acknowledgedNow resynchronised lookedWhen freshOf put frameOf checksumOf
+unfolding started submitted frameTaken looked acknowledgedNow resynchronised takenHearing lookedBy lookedWhen freshOf put frameOf checksumOf
 shut-out = record {
   refuses = λ answer differs. each (refuse answer) (λ call. call one slots buffer .told .answer) differs differs differs differs differs;
   repeats = λ same.
@@ -166,6 +177,20 @@ shut-out = record {
   lost-before-short =
       let wrong : _≢_ {A = ℕ} 3 2 = eqb-false 3 2 refl in
       each lostFirst (λ call. call (withLost one true) [] [] .told .answer) wrong wrong wrong wrong wrong;
+  refuses-done = λ answer differs. each (refuseDone answer) (λ call. call one slots buffer .told .answer) differs differs differs differs differs;
+  idles-done =
+      each (refuseDone 0) (λ call. call one slots buffer .told .sent)
+      (eqb-false 0 6 refl)
+      (eqb-false 0 6 refl)
+      (eqb-false 0 6 refl)
+      (eqb-false 0 5 refl)
+      (eqb-false 0 5 refl);
+  stays =
+      let wrong : _≢_ {A = ℕ} 1 0 = eqb-false 1 0 refl in
+      each stay (λ call. bit (call one slots buffer .told .state .acking)) wrong wrong wrong wrong wrong;
+  one-count =
+      let wrong : _≢_ {A = ℕ} 0 1 = eqb-false 0 1 refl in
+      each oneCount (λ call. call (withRepeated one (0 ∷ 4 ∷ [])) slots buffer .told .answer) wrong wrong wrong wrong wrong;
   start = record {
     refuses = λ answer differs same. differs (ap (λ (f : StartCall). f (settings 2) 22 .answer) same);
     idles = λ same. eqb-false 0 2 refl (ap (λ (f : StartCall). f (settings 2) 22 .state .settings .window) same);
@@ -174,6 +199,9 @@ shut-out = record {
     short-before-range = λ same. eqb-false 2 1 refl (ap (λ (f : StartCall). f (settings 3) 0 .answer) same);
     other-state-with-1 = λ other differs same. differs (ap (λ (f : StartCall). f (settings 3) 0 .state) same);
     other-state-with-2 = λ other differs same. differs (ap (λ (f : StartCall). f (settings 2) 0 .state) same);
+    acknowledge-as-long = λ same. eqb-false 0 1 refl (ap (λ (f : StartCall). f (timed 2 100) 22 .answer) same);
+    window-of-three = λ same. eqb-false 0 1 refl (ap (λ (f : StartCall). f (settings 3) 33 .answer) same);
+    marked = λ same. eqb-false 1 0 refl (ap (λ (f : StartCall). bit (f (settings 2) 22 .state .nakmark)) same);
   };
   submit = record {
     repeats-where-sent = λ bytes same.
@@ -183,6 +211,16 @@ shut-out = record {
     slots-on-refusal = λ byte same. other-differs byte (ap (λ (f : Call). getD (f one (other byte ∷ []) [] 0 packet .slots) 0 0) same);
     slot-by-two = λ same. eqb-false 0 1 refl (ap (λ (f : Call). getD (f (end 1 1 0) slots buffer 0 packet .slots) 0 0) same);
     timer-left = λ same. eqb-false 1 0 refl (ap (λ (f : Call). bit (f one slots buffer 0 packet .told .state .acking)) same);
+    below-m = λ same. eqb-false 4 0 refl (ap (λ (f : Call). f one slots buffer 0 (replicate 11 1) .told .answer) same);
+    first-slot-only = λ same. eqb-false 1 0 refl (ap (λ (f : Call). getD (f one slots buffer 0 packet .slots) 0 0) same);
+    not-copied = λ same. eqb-false 0 1 refl (ap (λ (f : Call). getD (f one slots buffer 0 packet .slots) 11 0) same);
+    count-from = λ count differs same. differs (ap (λ (f : Call). getD (f one slots buffer 0 packet .told .state .repeated) 1 0) same);
+    other-timer = λ same. eqb-false 7 0 refl (ap (λ (f : Call). getD (f one slots buffer 7 packet .told .state .starts) 0 0) same);
+    number-0 = λ same. eqb-false 0x01 0x05 refl (ap (λ (f : Call). getD (f one slots buffer 0 packet .frame) 0 0) same);
+    stale-ack = λ same. eqb-false 0x04 0x05 refl (ap (λ (f : Call). getD (f one slots buffer 0 packet .frame) 0 0) same);
+    len-low-first = λ same. eqb-false 1 0 refl (ap (λ (f : Call). getD (f one slots buffer 0 packet .frame) 1 0) same);
+    other-polynomial = λ same. eqb-false 0xCC 0x06 refl (ap (λ (f : Call). getD (f one slots buffer 0 packet .frame) 4 0) same);
+    seed-up = λ same. eqb-false 0x0E 0x06 refl (ap (λ (f : Call). getD (f one slots buffer 0 packet .frame) 4 0) same);
   };
   take = record {
     repeats-where-sent = λ bytes same.
@@ -192,6 +230,23 @@ shut-out = record {
     nak-in-step-3 = λ same. eqb-false 5 0 refl (ap (λ (f : Call). f one slots buffer 0 (frameOf format 0x80 packet) .told .sent) same);
     over-gap = λ same. eqb-false 1 0 refl (ap (λ (f : Call). f one slots buffer 0 (numbered 3) .told .delivered) same);
     timer-left-by-repeat = λ same. eqb-false 1 0 refl (ap (λ (f : Call). bit (f one slots buffer 0 (nakFrame format 0) .told .state .acking)) same);
+    len-0 = λ same. eqb-false 0 6 refl (ap (λ (f : Call). f (withExpected one 0) slots buffer 0 (replicate 5 0) .told .answer) same);
+    over-d = λ same. eqb-false 12 0 refl (ap (λ (f : Call). f one slots buffer 0 (dataFrame format 2 3 (replicate 12 1)) .told .delivered) same);
+    code-as-sum = λ same. eqb-false 6 7 refl (ap (λ (f : Call). f one slots buffer 0 (frameOf format 0x10 packet) .told .answer) same);
+    nak-again = λ same. eqb-false 5 0 refl (ap (λ (f : Call). f (withNakmark one true) slots buffer 0 [] .told .sent) same);
+    nak-names-last = λ same. eqb-false 0xA1 0xA2 refl (ap (λ (f : Call). getD (f one slots buffer 0 [] .frame) 0 0) same);
+    nak-stops-timer = λ same. eqb-false 0 1 refl (ap (λ (f : Call). bit (f one slots buffer 0 [] .told .state .acking)) same);
+    nak-ignored = λ same. eqb-false 0 6 refl (ap (λ (f : Call). f one slots buffer 0 (nakFrame format 0) .told .sent) same);
+    frees-one-only = λ same. eqb-false 1 0 refl (ap (λ (f : Call). f two slots buffer 0 (ackFrame format 1) .told .state .waiting) same);
+    timer-restarted = λ same. eqb-false 7 0 refl (ap (λ (f : Call). f one slots buffer 7 (numbered 2) .told .state .ackstart) same);
+    duplicate-counted = λ delivered dropped more same.
+        none-invented delivered dropped more
+        (ap (λ (f : Call). f one slots buffer 0 (numbered 1) .told .delivered + f one slots buffer 0 (numbered 1) .told .dropped) same);
+    reset-answered = λ same. eqb-false 5 0 refl (ap (λ (f : Call). f one slots buffer 0 (resetFrame format) .told .sent) same);
+    reset-no-drops = λ same. eqb-false 0 1 refl (ap (λ (f : Call). f one slots buffer 0 (resetFrame format) .told .dropped) same);
+    reset-mark-left = λ same. eqb-false 1 0 refl (ap (λ (f : Call). bit (f (withNakmark one true) slots buffer 0 (resetFrame format) .told .state .nakmark)) same);
+    repeat-not-counted = λ same. eqb-false 0 1 refl (ap (λ (f : Call). getD (f one slots buffer 0 (nakFrame format 0) .told .state .repeated) 0 0) same);
+    other-slot = λ same. eqb-false 2 1 refl (ap (λ (f : Call). getD (f one filled buffer 0 (nakFrame format 0) .frame) 3 0) same);
     timer-left-by-ack = λ same. eqb-false 1 0 refl (ap (λ (f : Call). bit (f one slots buffer 0 (numbered 1) .told .state .acking)) same);
   };
   look = record {
@@ -201,6 +256,15 @@ shut-out = record {
     passed-over = λ same. eqb-false 0 3 refl (ap (λ (f : LookCall). f (withRepeated two (3 ∷ 0 ∷ [])) slots buffer 100 .told .outcome .answer) same);
     timer-left-by-repeat = λ same. eqb-false 1 0 refl (ap (λ (f : LookCall). bit (f one slots buffer 100 .told .outcome .state .acking)) same);
     timer-left-by-ack = λ same. eqb-false 1 0 refl (ap (λ (f : LookCall). bit (f none slots buffer 100 .told .outcome .state .acking)) same);
+    backwards = λ same. eqb-false 6 0 refl (ap (λ (f : LookCall). f one slots buffer 1 .told .outcome .sent) same);
+    clock-turned = λ same. eqb-false 6 0 refl (ap (λ (f : LookCall). f one slots buffer 1 .told .outcome .sent) same);
+    wrong-timeout = λ same. eqb-false 6 5 refl (ap (λ (f : LookCall). f one slots buffer 50 .told .outcome .sent) same);
+    freed-timer = λ same. eqb-false 6 5 refl (ap (λ (f : LookCall). f none slots buffer 100 .told .outcome .sent) same);
+    repeat-not-counted = λ same. eqb-false 0 1 refl (ap (λ (f : LookCall). getD (f one slots buffer 100 .told .outcome .state .repeated) 0 0) same);
+    other-slot = λ same. eqb-false 2 1 refl (ap (λ (f : LookCall). getD (f one filled buffer 100 .frame) 3 0) same);
+    other-timer = λ same. eqb-false 0 100 refl (ap (λ (f : LookCall). getD (f one slots buffer 100 .told .outcome .state .starts) 0 0) same);
+    stale-ack = λ same. eqb-false 0x00 0x01 refl (ap (λ (f : LookCall). getD (f one slots buffer 100 .frame) 0 0) same);
+    nak-for-ack = λ same. eqb-false 0xA1 0x81 refl (ap (λ (f : LookCall). getD (f none slots buffer 100 .frame) 0 0) same);
     by-size-wrapped = λ same.
         eqb-false 6 0 refl
         (ap (λ (f : LookCall). f (withStarts (withAcking one false) (4294967276 ∷ 0 ∷ [])) slots buffer 4294967277 .told .outcome .sent) same);
@@ -208,10 +272,13 @@ shut-out = record {
         eqb-false 0 6 refl (ap (λ (f : LookCall). f (withStarts (withAcking one false) (4294967276 ∷ 0 ∷ [])) slots buffer 80 .told .outcome .sent) same);
   };
   acknowledge = record {
+    nak-for-ack = λ same. eqb-false 0xA1 0x81 refl (ap (λ (f : Bare). getD (f one slots buffer .frame) 0 0) same);
     repeats-where-sent = λ bytes same.
         same-less-same (getD (put buffer 0 bytes) 0 0) 0
         (ap (λ (f : Bare). getD (f one slots buffer .frame) 0 0 - getD (f (withExpected one 1) slots buffer .frame) 0 0) same);
     timer-left = λ same. eqb-false 1 0 refl (ap (λ (f : Bare). bit (f one slots buffer .told .state .acking)) same);
   };
+  resynchronise-no-drops = λ same. eqb-false 0 1 refl (ap (λ (f : Bare). f one slots buffer .told .dropped) same);
+  resynchronise-mark-left = λ same. eqb-false 1 0 refl (ap (λ (f : Bare). bit (f (withNakmark one true) slots buffer .told .state .nakmark)) same);
   resynchronise-when-lost = λ same. eqb-false 3 0 refl (ap (λ (f : Bare). f (withLost one true) slots buffer .told .answer) same);
 }

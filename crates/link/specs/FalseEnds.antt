@@ -1,31 +1,37 @@
 -- Ends that the contracts shut out; proofs/Shut.antt shows it. A contract is an equation with a definition (`started`, `submitted`, ..) on every
 -- input, so a call that is to meet it is that function. Each wrong end here is a function too, the true one but for one thing, and ShutOut and
 -- ShutOutAlone say that it is not the true one. (They differ at an input that code can be given: that is where the proofs try them.)
-use Prim.Native.Nat.{ℕ, _+_, _*_, _%_, _≤_}
-use mathlib.Core.Bool.{Bool, false, cond, not, _&&_, _||_}
+use Prim.Native.Nat.{ℕ, zero, suc, _+_, _-_, _*_, _/_, _%_, _≤_}
+use mathlib.Core.Bool.{Bool, true, false, cond, not, _&&_, _||_}
 use mathlib.Core.List.{List, [], _∷_, _++_}
 use mathlib.Core.Path.{_≡_}
 use mathlib.Core.Logic.{_≢_}
-use lib.ListN.{length, take, set}
+use lib.ListN.{length, take, drop, getD, set}
 use lib.Dec.{eqb, leb, ltb}
-use Rattle.base.specs.Answer.{done, outOfRange, shortBuffer, linkLost, packetSize, windowFull, controlSize, unexpected}
+use lib.Bits.{bitXor}
+use Rattle.base.specs.Answer.{done, outOfRange, shortBuffer, linkLost, packetSize, windowFull, badFrame, unusedCode, controlSize, unexpected}
+use Rattle.base.specs.Range.{leastOf}
 use Rattle.base.specs.Buffer.{put}
-use Rattle.frame.specs.declared.Heard.the-variants.{ControlSize}
-use Rattle.frame.specs.Bytes.{resetFrame}
-use Rattle.frame.specs.Steps.{fctrOf, sameBytes, isControl, isNak, acknowledgedOf}
+use Rattle.fcs.specs.Checksum.{byteStep}
+use Rattle.frame.specs.declared.Format.{Format}
+use Rattle.frame.specs.declared.Heard.{Heard}
+use Rattle.frame.specs.declared.Heard.the-variants.{Sum, ControlSize, Data}
+use Rattle.frame.specs.Bytes.{fcsBytes, sealed, frameOf, dataFrame, nakFrame, resetFrame}
+use Rattle.frame.specs.Steps.{fctrOf, sameBytes, isControl, isNak, numberOf, acknowledgedOf, heard}
 use Rattle.state.specs.declared.Settings.{Settings}
 use Rattle.state.specs.declared.Link.{Link}
 use Rattle.state.specs.declared.Outcome.{Outcome}
-use Rattle.state.specs.Bounds.{limitOf, slotsNeed}
-use Rattle.state.specs.Fields.{withExpected, withWaiting, withAcking, withNakmark, withLost}
-use Rattle.state.specs.State.{sentBefore, startOf, wellFormed}
-use Rattle.state.specs.Timer.{due}
+use Rattle.state.specs.Bounds.{limitOf, inRange, slotsNeed}
+use Rattle.state.specs.Fields.{withStarts, withAckstart, withRepeated, withExpected, withWaiting, withAcking, withNakmark, withLost}
+use Rattle.state.specs.State.{lastCorrect, sentBefore, slotOf, lengthOf, startOf, wellFormed, freshOf}
+use Rattle.state.specs.Timer.{due, acknowledgeDue}
 use Rattle.state.specs.Gate.{After, after, only, refused, gated, gateOf}
 use Rattle.state.specs.Calls.{zeros, started, resynchronised}
+use Rattle.send.specs.Repeat.{partOf}
 use Rattle.send.specs.Makers.{Sending, silent, concluded, sendsNak}
 use Rattle.send.specs.Submit.{submitted}
 use Rattle.receive.specs.Steps.{freed}
-use Rattle.receive.specs.Take.{refusedWithNak, frameTaken}
+use Rattle.receive.specs.Take.{refusedWithNak, obeyed, frameTaken}
 use Rattle.clock.specs.declared.Looked.{Looked}
 use Rattle.clock.specs.Look.{afterOldest, exhausted, served, acknowledgedIf, lookedNewer, looking, looked, acknowledgedNow}
 
@@ -90,11 +96,25 @@ sendsData a = sends a && not (isControl (fctrOf (a .frame)))
 abbrev pub sendsControl : After Outcome → Bool
 sendsControl a = sends a && isControl (fctrOf (a .frame))
 
+-- of take, where a control frame is an ACK or a NAK
+abbrev pub naks : After Outcome → Bool
+naks a = sendsControl a && isNak (fctrOf (a .frame))
+
 -- an outcome with another state
 abbrev pub leaving : Link → After Outcome → After Outcome
 leaving l a =
     let told : Outcome = a .told in
     after (record { state = l; sent = told .sent; delivered = told .delivered; dropped = told .dropped; answer = told .answer }) (a .slots) (a .frame)
+
+-- an outcome with as many other bytes in the place of the frame sent
+abbrev pub writing : List ℕ → After Outcome → After Outcome
+writing bytes a = after (a .told) (a .slots) (put (a .frame) 0 bytes)
+
+-- an outcome that tells another length of the frame sent, and another count of drops
+abbrev pub telling : ℕ → ℕ → After Outcome → After Outcome
+telling sent dropped a =
+    let told : Outcome = a .told in
+    after (record { state = told .state; sent = sent; delivered = told .delivered; dropped = dropped; answer = told .answer }) (a .slots) (a .frame)
 
 -- ---- document 01's five: "Try these against the statements: an end that refuses everything, one that always sends the same frame, one that does
 -- nothing, one that serves the first packet and then only pretends, one that invents packet or drop counts. Demand 2 shuts out each."
@@ -102,6 +122,10 @@ leaving l a =
 -- by whatever number
 abbrev pub refuse : ℕ → Change
 refuse answer call l slots frame = refused l answer slots frame
+
+-- only what is to be done; every refusal is right
+abbrev pub refuseDone : ℕ → Change
+refuseDone answer = instead (answers done) (λ l slots frame right. refused l answer slots frame)
 
 -- whatever frame that is, also where none is to be sent; all else is as it should be
 abbrev pub repeat : List ℕ → Change
@@ -127,6 +151,10 @@ pretend call l slots frame =
     let right : After Outcome = call l slots frame in
     cond (eqb (l .next) 0) right (after (right .told) slots frame)
 
+-- all is written and told as it should be, and the state stays
+abbrev pub stay : Change
+stay = instead (answers done) (λ l slots frame right. leaving l right)
+
 -- so many more bytes delivered, or so many more packets dropped
 abbrev pub counting : ℕ → ℕ → Outcome → Outcome
 counting delivered dropped told = record {
@@ -141,6 +169,11 @@ abbrev pub invent : ℕ → ℕ → Change
 invent delivered dropped call l slots frame =
     let right : After Outcome = call l slots frame in
     after (counting delivered dropped (right .told)) (right .slots) (right .frame)
+
+-- .. told of a duplicate only
+abbrev pub inventDuplicate : ℕ → ℕ → Call
+inventDuplicate delivered dropped =
+    takeBut (instead (answers unexpected) (λ l slots frame right. after (counting delivered dropped (right .told)) (right .slots) (right .frame)))
 
 -- as calls, for the statement of two ends (pair); refusing and idle are submit and take alike
 abbrev pub refusing : ℕ → Call
@@ -202,6 +235,10 @@ fullFirst =
 abbrev pub shortFirst : StartCall
 shortFirst s slots = cond (ltb slots (slotsNeed s)) (only zeros shortBuffer) (started s slots)
 
+-- "a repeat count above TRANS_REPEAT": in slot 1 it is taken for TRANS_REPEAT
+abbrev pub oneCount : Change
+oneCount call l = call (withRepeated l (set (l .repeated) 1 (leastOf (getD (l .repeated) 1 0) (l .settings .repeats))))
+
 -- ---- start
 
 abbrev pub startRefusing : ℕ → StartCall
@@ -219,13 +256,134 @@ startLeaving other answer s slots =
     let right : Outcome = started s slots in
     cond (eqb (right .answer) answer) (only other answer) right
 
--- ---- what a call does
+-- settings are in range also if they are with one less, by `less`, of one setting ..
+abbrev pub startMore : (Settings → Settings) → StartCall
+startMore less s slots =
+    cond (inRange s || inRange (less s))
+    (cond (ltb slots (slotsNeed s)) (only zeros shortBuffer) (only (freshOf s) done))
+    (only zeros outOfRange)
 
--- the packet goes to "the slot numbered (frame number modulo" 2, whatever WIN_SIZE is
-abbrev pub slotByTwo : Call
-slotByTwo l slots frame ms packet =
+-- .. so an acknowledge timeout is that is as long as TRANS_TIMEOUT, ..
+abbrev pub lessAcktimeout : Settings → Settings
+lessAcktimeout s = record {
+  format = s .format;
+  transtimeout = s .transtimeout;
+  acktimeout = s .acktimeout - 1;
+  window = s .window;
+  repeats = s .repeats;
+}
+
+-- .. and a WIN_SIZE of 3
+abbrev pub lessWindow : Settings → Settings
+lessWindow s = record {
+  format = s .format;
+  transtimeout = s .transtimeout;
+  acktimeout = s .acktimeout;
+  window = s .window - 1;
+  repeats = s .repeats;
+}
+
+-- "a fresh end has .. no NAK mark"
+abbrev pub startMarked : StartCall
+startMarked s slots =
+    let right : Outcome = started s slots in
+    cond (eqb (right .answer) done) (only (withNakmark (right .state) true) done) right
+
+-- ---- what submit does
+
+-- a packet of m bytes is refused
+abbrev pub belowLimit : Call
+belowLimit l slots frame ms packet =
     let right : After Outcome = submitted l slots frame ms packet in
-    cond (answers done right) (after (right .told) (put slots (l .next % 2 * limitOf (l .settings)) packet) (right .frame)) right
+    cond ((answers done right || answers windowFull right) && eqb (length packet) (limitOf (l .settings))) (refused l packetSize slots frame) right
+
+-- the packet goes to another slot than "the slot numbered (frame number modulo WIN_SIZE)": ..
+abbrev pub slotBy : (ℕ → ℕ) → Call
+slotBy slot l slots frame ms packet =
+    let right : After Outcome = submitted l slots frame ms packet in
+    cond (answers done right) (after (right .told) (put slots (slot (l .next) * limitOf (l .settings)) packet) (right .frame)) right
+
+-- .. modulo 2, whatever WIN_SIZE is
+abbrev pub byTwo : ℕ → ℕ
+byTwo number = number % 2
+
+-- pretends only in this: past packet 0 none is copied
+abbrev pub notCopied : Call
+notCopied = submitBut (λ call l slots frame. let right : After Outcome = call l slots frame in cond (eqb (l .next) 0) right (after (right .told) slots (right .frame)))
+
+-- "sets its repeat count to 0": to this
+abbrev pub countFrom : ℕ → Call
+countFrom count =
+    submitBut (instead (answers done)
+    (λ l slots frame right.
+    let k : Link = right .told .state in
+    leaving (withRepeated k (set (k .repeated) (slotOf l (l .next)) count)) right))
+
+-- ---- the frames sent
+
+-- a data frame with other bytes before FCS, and FCS of these
+abbrev pub dataBut : (List ℕ → List ℕ) → Change
+dataBut change =
+    instead sendsData
+    (λ l slots frame right. writing (sealed (l .settings .format) (change (take (right .told .sent - 2) (right .frame)))) right)
+
+-- number 0, whatever the packet's is
+abbrev pub numberZero : List ℕ → List ℕ
+numberZero bytes = set bytes 0 (fctrOf bytes % 4)
+
+-- "carries ACK for the last correct number at that moment": for the one before
+abbrev pub stale : List ℕ → List ℕ
+stale bytes = set bytes 0 (fctrOf bytes / 4 * 4 + (fctrOf bytes + 3) % 4)
+
+-- LEN low byte first
+abbrev pub lenTurned : List ℕ → List ℕ
+lenTurned bytes = set (set bytes 1 (getD bytes 2 0)) 2 (getD bytes 1 0)
+
+-- FCS by another sum ..
+abbrev pub summed : (List ℕ → ℕ) → Change
+summed sum =
+    instead sends (λ l slots frame right.
+    let covered : List ℕ = take (right .told .sent - 2) (right .frame) in
+    writing (covered ++ fcsBytes (l .settings .format) (sum covered)) right)
+
+-- .. with another step from seed and byte ..
+abbrev pub sumFrom : (ℕ → ℕ → ℕ) → ℕ → List ℕ → ℕ
+sumFrom step seed [] = seed
+sumFrom step seed (byte ∷ bytes) = sumFrom step (step seed byte) bytes
+
+-- .. of so many bits by the bit rule with another polynomial ..
+abbrev pub stepsBy : ℕ → ℕ → ℕ → ℕ → ℕ
+stepsBy polynomial zero seed byte = seed
+stepsBy polynomial (suc n) seed byte =
+    stepsBy polynomial n (cond (eqb (seed % 2) (byte % 2)) (seed / 2) (bitXor (seed / 2) polynomial)) (byte / 2)
+
+-- .. or by the table with the seed shifted up
+abbrev pub seedUp : ℕ → ℕ → ℕ
+seedUp seed byte = bitXor (byteStep 0 (bitXor seed byte % 256)) (seed * 256 % 65536)
+
+-- a NAK for an ACK, of a call that sends no other control frame
+abbrev pub nakForAck : Change
+nakForAck = instead sendsControl (λ l slots frame right. writing (nakFrame (l .settings .format) (lastCorrect l)) right)
+
+-- ---- repeats: "A repeat adds 1 to its count and restarts its timer."
+
+abbrev pub notCounted : Change
+notCounted = instead sendsData (λ l slots frame right. leaving (withRepeated (right .told .state) (l .repeated)) right)
+
+-- the bytes, or at a first sending and at a repeat the timer, of the other slot, where there are two
+abbrev pub otherSlot : Change
+otherSlot =
+    instead sendsData (λ l slots frame right.
+    let number : ℕ = numberOf (fctrOf (right .frame)) in
+    let packet : List ℕ = take (lengthOf l number) (drop (partOf l (number + 1)) slots) in
+    writing (frameOf (l .settings .format) (fctrOf (right .frame)) packet) right)
+
+abbrev pub otherTimer : ℕ → Change
+otherTimer ms =
+    instead sendsData (λ l slots frame right.
+    leaving (withStarts (right .told .state) (set (l .starts) (slotOf l (numberOf (fctrOf (right .frame)) + 1)) ms)) right)
+
+-- ---- what a call does
 
 -- "Each data frame, also a repeated one, .. stops the acknowledge timer."; "Every control ACK stops the acknowledge timer": one of such a kind
 -- leaves it as it was
@@ -240,6 +398,55 @@ hearsReset l slots frame ms received =
 -- step 3, "8, dropped, nothing sent", with a NAK
 abbrev pub naksStep3 : Call
 naksStep3 = takeBut (instead (answers controlSize) (λ l slots frame right. refusedWithNak l slots frame ControlSize))
+
+-- step 2, "7, NAK", with 6
+abbrev pub codeAsSum : Call
+codeAsSum = takeBut (instead (answers unusedCode) (λ l slots frame right. refusedWithNak l slots frame Sum))
+
+-- "A NAK names the last correct number + 1, .. and is sent at most once until the next delivery.": with every refusal, ..
+abbrev pub naksAgain : Call
+naksAgain =
+    takeBut (instead (λ right. answers badFrame right || answers unusedCode right)
+    (λ l slots frame right. concluded (sendsNak (withNakmark l false) frame) (right .told .answer) 0 slots))
+
+-- .. or it names the last correct number
+abbrev pub naksLast : Call
+naksLast = takeBut (instead naks (λ l slots frame right. writing (nakFrame (l .settings .format) (lastCorrect l)) right))
+
+-- "Every control ACK stops the acknowledge timer; a control NAK doesn't."
+abbrev pub nakStops : Call
+nakStops = takeBut (instead naks (λ l slots frame right. leaving (withAcking (right .told .state) false) right))
+
+-- "NAK k repeats packet k": it does as if none waited
+abbrev pub nakIgnored : Call
+nakIgnored =
+    takeBut (λ call. instead sendsData
+    (λ l slots frame right.
+    let other : After Outcome = call (withWaiting l 0) slots frame in
+    leaving (withWaiting (other .told .state) (l .waiting)) other) call)
+
+-- "the acknowledge timer starts unless it runs": also if it runs
+abbrev pub restarts : Call
+restarts l slots frame ms =
+    takeBut (instead (λ right. not (eqb (right .told .delivered) 0))
+    (λ l slots frame right. leaving (withAckstart (right .told .state) ms) right)) l slots frame ms
+
+-- where a reset is heard
+abbrev pub onReset : Change → Call
+onReset change l slots frame ms received =
+    cond (sameBytes received (resetFrame (l .settings .format))) (takeBut change l slots frame ms received) (frameTaken l slots frame ms received)
+
+-- "5. Reset: the end becomes fresh .., waiting packets are dropped, their count is told.": it tells a frame as sent, ..
+abbrev pub tellsFrame : Change
+tellsFrame = instead (answers done) (λ l slots frame right. telling 5 (right .told .dropped) right)
+
+-- .. or, heard or sent, no drops, ..
+abbrev pub tellsNoDrops : Change
+tellsNoDrops = instead (answers done) (λ l slots frame right. telling (right .told .sent) 0 right)
+
+-- .. or leaves the NAK mark
+abbrev pub leavesMark : Change
+leavesMark = instead (answers done) (λ l slots frame right. leaving (withNakmark (right .told .state) (l .nakmark)) right)
 
 -- "Delivering the frame after a gap.": what would be delivered were one more packet there already is delivered
 abbrev pub overGap : Call
@@ -257,17 +464,46 @@ passesOver l slots frame ms =
 abbrev pub staysLost : Bare
 staysLost = instead (answers done) (λ l slots frame right. cond (l .lost) (refused l linkLost slots frame) right) resynchronised
 
+-- ---- take by another hearing
+
+-- frameTaken, with this in the place of `heard` (frame)
+unfoldable pub takenHearing : (Format → List ℕ → Heard) → Call
+unfolding gateOf obeyed
+takenHearing hear l slots frame ms received =
+    gated (gateOf l (length slots) (length frame)) l slots frame (obeyed l slots frame ms (hear (l .settings .format) received))
+
+-- by the true hearing it is frameTaken
+abbrev pub TakenHearingTrue : Type 0
+TakenHearingTrue = takenHearing heard ≡ frameTaken
+
+-- step 4, "Data frame with LEN 0": one with ACK is heard as any other
+abbrev pub hearsEmpty : Format → List ℕ → Heard
+hearsEmpty format received =
+    let number : ℕ = numberOf (fctrOf received) in
+    let acknowledged : ℕ = acknowledgedOf (fctrOf received) in
+    cond (sameBytes received (dataFrame format number acknowledged [])) (Data number false acknowledged 0) (heard format received)
+
+-- step 1, "more than D": one byte more is heard
+abbrev pub hearsLonger : Format → List ℕ → Heard
+hearsLonger format = heard (record { d = format .d + 1 })
+
 -- ---- look by another test
+
+-- looked, with these tests in the place of `packetDue` and `acknowledgeDue` (state)
+unfoldable pub lookedBy : (Link → ℕ → ℕ → Bool) → (Link → ℕ → Bool) → LookCall
+unfolding gateOf
+lookedBy packet acknowledge l slots frame ms =
+    looking (gated (gateOf l (length slots) (length frame)) l slots frame
+    (cond (packet l (afterOldest l) ms) (served l slots frame ms (sentBefore l (afterOldest l)))
+    (cond (packet l 0 ms) (served l slots frame ms (sentBefore l 0))
+    (acknowledgedIf (acknowledge l ms) l slots frame))))
 
 -- looked, with this test of timeout, start time and clock in the place of `due` (state)
 unfoldable pub lookedWhen : (ℕ → ℕ → ℕ → Bool) → LookCall
-unfolding gateOf
-lookedWhen test l slots frame ms =
-    let packet : ℕ → Bool = λ n. ltb n (l .waiting) && test (l .settings .transtimeout) (startOf l (sentBefore l n)) ms in
-    looking (gated (gateOf l (length slots) (length frame)) l slots frame
-    (cond (packet (afterOldest l)) (served l slots frame ms (sentBefore l (afterOldest l)))
-    (cond (packet 0) (served l slots frame ms (sentBefore l 0))
-    (acknowledgedIf (l .acking && test (l .settings .acktimeout) (l .ackstart) ms) l slots frame))))
+unfolding lookedBy
+lookedWhen test =
+    lookedBy (λ l n ms. ltb n (l .waiting) && test (l .settings .transtimeout) (startOf l (sentBefore l n)) ms)
+    (λ l ms. l .acking && test (l .settings .acktimeout) (l .ackstart) ms)
 
 -- by the true test it is looked
 abbrev pub LookedWhenTrue : Type 0
@@ -281,6 +517,22 @@ bySizeWrapped timeout start ms = leb ((start + timeout) % 4294967296) ms
 abbrev pub bySize : ℕ → ℕ → ℕ → Bool
 bySize timeout start ms = leb (start + timeout) ms
 
+-- elapsed time the wrong way round, of every timer ..
+abbrev pub backwards : ℕ → ℕ → ℕ → Bool
+backwards timeout start ms = due timeout ms start
+
+-- .. or of the packets' alone; ..
+abbrev pub turned : Link → ℕ → ℕ → Bool
+turned l n ms = ltb n (l .waiting) && backwards (l .settings .transtimeout) (startOf l (sentBefore l n)) ms
+
+-- .. with the acknowledge timeout; ..
+abbrev pub early : Link → ℕ → ℕ → Bool
+early l n ms = ltb n (l .waiting) && due (l .settings .acktimeout) (startOf l (sentBefore l n)) ms
+
+-- .. also of the packet that was freed last
+abbrev pub freedToo : Link → ℕ → ℕ → Bool
+freedToo l n ms = leb n (l .waiting) && due (l .settings .transtimeout) (startOf l (sentBefore l n)) ms
+
 -- ---- seven that the statement of two ends (pair) does not see: the contracts alone shut them out
 
 -- an accepted NAK k, in a frame of such an FCTR, is obeyed as it should be, and then taken as ACK k − 1, too
@@ -291,12 +543,19 @@ nakFrees kind l slots frame ms received =
     cond ((answers done right || answers unexpected right) && (isNak fctr && kind fctr))
     (leaving (freed (right .told .state) ((acknowledgedOf fctr + 3) % 4)) right) right
 
--- ACK k is obeyed only if k is the oldest: one that would free two, the most that wait, frees none
-abbrev pub oldestOnly : Call
-oldestOnly =
+-- an ACK k that is to free two, the most that wait, leaves so many of them: all, as if it were obeyed only where k is the oldest, ..
+abbrev pub twoFreed : (ℕ → ℕ) → Call
+twoFreed left =
     takeBut (instead (λ right. eqb (right .told .dropped) 0)
     (λ l slots frame right.
-    leaving (cond (ltb (right .told .state .waiting + 1) (l .waiting)) (withWaiting (right .told .state) (l .waiting)) (right .told .state)) right))
+    leaving (cond (ltb (right .told .state .waiting + 1) (l .waiting)) (withWaiting (right .told .state) (left (l .waiting))) (right .told .state)) right))
+
+abbrev pub all : ℕ → ℕ
+all waiting = waiting
+
+-- .. or all but one
+abbrev pub allButOne : ℕ → ℕ
+allButOne waiting = waiting - 1
 
 -- a NAK "is sent at most once until the next delivery": the mark outlives it
 abbrev pub keepsMark : Call
@@ -321,7 +580,7 @@ losesAtOnce = instead sendsData (λ l slots frame right. exhausted l slots frame
 pub record ShutOutAlone : Type 0 where
   pub nak-frees : nakFrees isControl ≢ frameTaken
   pub nak-in-data-frees : nakFrees (λ fctr. not (isControl fctr)) ≢ frameTaken
-  pub ack-for-the-oldest-only : oldestOnly ≢ frameTaken
+  pub ack-for-the-oldest-only : twoFreed all ≢ frameTaken
   pub mark-kept : keepsMark ≢ frameTaken
   pub silent-duplicate : forDuplicate silent ≢ frameTaken
   pub nak-for-a-duplicate : forDuplicate sendsNak ≢ frameTaken
@@ -338,13 +597,26 @@ pub record StartShut : Type 0 where
   pub short-before-range : shortFirst ≢ started
   pub other-state-with-1 : (other : Link) → other ≢ zeros → startLeaving other outOfRange ≢ started
   pub other-state-with-2 : (other : Link) → other ≢ zeros → startLeaving other shortBuffer ≢ started
+  pub acknowledge-as-long : startMore lessAcktimeout ≢ started
+  pub window-of-three : startMore lessWindow ≢ started
+  pub marked : startMarked ≢ started
 
 pub record SubmitShut : Type 0 where
   pub repeats-where-sent : (same : List ℕ) → submitBut (repeatWhereSent same) ≢ submitted
   pub full-before-size : fullFirst ≢ submitted
   pub slots-on-refusal : (byte : ℕ) → submitBut (smearSlots byte) ≢ submitted
-  pub slot-by-two : slotByTwo ≢ submitted
+  pub slot-by-two : slotBy byTwo ≢ submitted
   pub timer-left : submitBut (timerLeft sendsData) ≢ submitted
+  pub below-m : belowLimit ≢ submitted
+  pub first-slot-only : slotBy (λ number. 0) ≢ submitted
+  pub not-copied : notCopied ≢ submitted
+  pub count-from : (count : ℕ) → count ≢ 0 → countFrom count ≢ submitted
+  pub other-timer : (λ l slots frame ms. submitBut (otherTimer ms) l slots frame ms) ≢ submitted
+  pub number-0 : submitBut (dataBut numberZero) ≢ submitted
+  pub stale-ack : submitBut (dataBut stale) ≢ submitted
+  pub len-low-first : submitBut (dataBut lenTurned) ≢ submitted
+  pub other-polynomial : submitBut (summed (sumFrom (stepsBy 0x8810 8) 0)) ≢ submitted
+  pub seed-up : submitBut (summed (sumFrom seedUp 0)) ≢ submitted
 
 pub record TakeShut : Type 0 where
   pub repeats-where-sent : (same : List ℕ) → takeBut (repeatWhereSent same) ≢ frameTaken
@@ -353,6 +625,21 @@ pub record TakeShut : Type 0 where
   pub over-gap : overGap ≢ frameTaken
   pub timer-left-by-repeat : takeBut (timerLeft sendsData) ≢ frameTaken
   pub timer-left-by-ack : takeBut (timerLeft sendsControl) ≢ frameTaken
+  pub len-0 : takenHearing hearsEmpty ≢ frameTaken
+  pub over-d : takenHearing hearsLonger ≢ frameTaken
+  pub code-as-sum : codeAsSum ≢ frameTaken
+  pub nak-again : naksAgain ≢ frameTaken
+  pub nak-names-last : naksLast ≢ frameTaken
+  pub nak-stops-timer : nakStops ≢ frameTaken
+  pub nak-ignored : nakIgnored ≢ frameTaken
+  pub frees-one-only : twoFreed allButOne ≢ frameTaken
+  pub timer-restarted : restarts ≢ frameTaken
+  pub duplicate-counted : (delivered dropped : ℕ) → 1 ≤ delivered + dropped → inventDuplicate delivered dropped ≢ frameTaken
+  pub reset-answered : onReset tellsFrame ≢ frameTaken
+  pub reset-no-drops : onReset tellsNoDrops ≢ frameTaken
+  pub reset-mark-left : onReset leavesMark ≢ frameTaken
+  pub repeat-not-counted : takeBut notCounted ≢ frameTaken
+  pub other-slot : takeBut otherSlot ≢ frameTaken
 
 pub record LookShut : Type 0 where
   pub repeats-where-sent : (same : List ℕ) → lookBut (repeatWhereSent same) ≢ looked
@@ -361,10 +648,20 @@ pub record LookShut : Type 0 where
   pub timer-left-by-ack : lookBut (timerLeft sendsControl) ≢ looked
   pub by-size-wrapped : lookedWhen bySizeWrapped ≢ looked
   pub by-size : lookedWhen bySize ≢ looked
+  pub backwards : lookedWhen backwards ≢ looked
+  pub clock-turned : lookedBy turned acknowledgeDue ≢ looked
+  pub wrong-timeout : lookedBy early acknowledgeDue ≢ looked
+  pub freed-timer : lookedBy freedToo acknowledgeDue ≢ looked
+  pub repeat-not-counted : lookBut notCounted ≢ looked
+  pub other-slot : lookBut otherSlot ≢ looked
+  pub other-timer : (λ l slots frame ms. lookBut (otherTimer ms) l slots frame ms) ≢ looked
+  pub stale-ack : lookBut (dataBut stale) ≢ looked
+  pub nak-for-ack : lookBut nakForAck ≢ looked
 
 pub record AcknowledgeShut : Type 0 where
   pub repeats-where-sent : (same : List ℕ) → repeatWhereSent same acknowledgedNow ≢ acknowledgedNow
   pub timer-left : timerLeft sendsControl acknowledgedNow ≢ acknowledgedNow
+  pub nak-for-ack : nakForAck acknowledgedNow ≢ acknowledgedNow
 
 pub record ShutOut : Type 0 where
   -- each of the five calls on a state
@@ -378,6 +675,10 @@ pub record ShutOut : Type 0 where
   pub past-the-frame : (byte : ℕ) → Shows (overrun byte)
   pub on-refusal : (byte : ℕ) → Shows (smear byte)
   pub lost-before-short : Shows lostFirst
+  pub refuses-done : (answer : ℕ) → answer ≢ done → Shows (refuseDone answer)
+  pub idles-done : Shows (refuseDone done)
+  pub stays : Shows stay
+  pub one-count : Shows oneCount
   -- one of them
   pub start : StartShut
   pub submit : SubmitShut
@@ -385,3 +686,5 @@ pub record ShutOut : Type 0 where
   pub look : LookShut
   pub acknowledge : AcknowledgeShut
   pub resynchronise-when-lost : staysLost ≢ resynchronised
+  pub resynchronise-no-drops : tellsNoDrops resynchronised ≢ resynchronised
+  pub resynchronise-mark-left : leavesMark resynchronised ≢ resynchronised
