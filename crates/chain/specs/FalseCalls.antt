@@ -1,18 +1,18 @@
 -- Ways to cut and to join that the contracts shut out; proofs/Shut.antt shows it. A contract is an equation with `cutOut` or `joined` on every
 -- input, so a call that is to meet it is that function. Each wrong one here is a function too, the true one but for one thing, and ShutOut says
 -- that it is not the true one.
-use Prim.Native.Nat.{ℕ, _+_, _≤_}
-use mathlib.Core.Bool.{cond, _&&_}
+use Prim.Native.Nat.{ℕ, _+_, _-_, _*_, _/_, _%_, _≤_}
+use mathlib.Core.Bool.{false, cond, not, _&&_}
 use mathlib.Core.List.{List, [], _∷_, _++_}
 use mathlib.Core.Logic.{_≢_}
-use lib.ListN.{length, take, set}
-use lib.Dec.{eqb}
-use Rattle.base.specs.Answer.{done, messageSize, noSuchPacket, securedPacket, tooLong}
+use lib.ListN.{length, take, drop, getD, set}
+use lib.Dec.{eqb, ltb}
+use Rattle.base.specs.Answer.{done, messageSize, noSuchPacket, chainFault, otherChannel, securedPacket, tooLong, faultTold}
 use Rattle.base.specs.Buffer.{put}
 use Rattle.chain.specs.declared.Joining.{Joining}
-use Rattle.chain.specs.Pctr.{onlyChannel, pctrOf, whole}
-use Rattle.chain.specs.Cut.{packetCount, Cutting, cutting, given, cutOut}
-use Rattle.chain.specs.Join.{closed, Joins, joins, joined}
+use Rattle.chain.specs.Pctr.{onlyChannel, channelOf, securedOf, chainOf, pctrOf, whole, middle}
+use Rattle.chain.specs.Cut.{longest, partSize, packetCount, chainAt, partAt, packetAt, Cutting, cutting, given, cutOut}
+use Rattle.chain.specs.Join.{closed, Joins, joins, faultPacket, refusal, totalOf, partAdded, joined}
 
 -- ---- cut
 
@@ -71,6 +71,35 @@ cutOverrunning byte =
 abbrev pub cutSmearing : ℕ → CutCall
 cutSmearing byte = cutBut (λ message i buffer right. cond (eqb (right .told .answer) done) right (cutting (right .told) (set buffer 0 byte)))
 
+-- a packet told one byte shorter than it is
+abbrev pub cutShorter : CutCall
+cutShorter =
+    cutBut (λ message i buffer right.
+    cutting (record { count = right .told .count; length = right .told .length - 1; answer = right .told .answer }) (right .buffer))
+
+-- what is given, by another count of the packets (of m and the length of the message) and of other bytes (of m, the message and i)
+abbrev pub cutBy : (ℕ → ℕ → ℕ) → (ℕ → List ℕ → ℕ → List ℕ) → CutCall
+cutBy count packet m message i buffer =
+    let right : Cutting = cutOut m message i buffer in
+    let told : List ℕ = packet m message i in
+    cond (eqb (right .told .answer) done)
+    (cutting (record { count = count m (length message); length = length told; answer = done }) (put buffer 0 told))
+    right
+
+-- "last 100 with 1 to m − 1 bytes of it": where m − 1 divides the length, an empty packet more is counted
+abbrev pub emptyMore : ℕ → ℕ → ℕ
+emptyMore m message = (message + partSize m) / partSize m
+
+-- the last packet but one is marked as the last, unless it is the first; the last as a middle one
+abbrev pub lastEarly : ℕ → List ℕ → ℕ → List ℕ
+lastEarly m message i =
+    let count : ℕ = packetCount m (length message) in
+    pctrOf onlyChannel (cond (eqb i 0) (chainAt i count) (chainAt (i + 1) count)) ∷ partAt m message i
+
+-- the part from i × m on
+abbrev pub partByLimit : ℕ → List ℕ → ℕ → List ℕ
+partByLimit m message i = pctrOf onlyChannel (chainAt i (packetCount m (length message))) ∷ take (partSize m) (drop (i * m) message)
+
 pub record CutShut : Type 0 where
   pub refuses : (answer : ℕ) → answer ≢ done → cutRefusing answer ≢ cutOut
   pub repeats : (same : List ℕ) → cutRepeating same ≢ cutOut
@@ -82,6 +111,10 @@ pub record CutShut : Type 0 where
   pub empty-message : cutEmpty ≢ cutOut
   pub behind-the-packet : (byte : ℕ) → cutOverrunning byte ≢ cutOut
   pub on-refusal : (byte : ℕ) → cutSmearing byte ≢ cutOut
+  pub one-byte-less : cutShorter ≢ cutOut
+  pub empty-counted : cutBy emptyMore (λ m. packetAt m onlyChannel) ≢ cutOut
+  pub last-too-early : cutBy packetCount lastEarly ≢ cutOut
+  pub wrong-part : cutBy packetCount partByLimit ≢ cutOut
 
 -- ---- join
 
@@ -123,13 +156,54 @@ joinSparing m j packet room =
 abbrev pub securedDrops : JoinCall
 securedDrops = joinBut (λ j room right. cond (eqb (right .told .answer) securedPacket) (leaving (closed j) (right .told .length) right) right)
 
--- .. or 14 that keeps it
-abbrev pub tooLongKeeps : JoinCall
-tooLongKeeps = joinBut (λ j room right. cond (eqb (right .told .answer) tooLong) (leaving j (right .told .length) right) right)
+-- .. or 10, 14 or 15 that keeps it
+abbrev pub keepsWith : ℕ → JoinCall
+keepsWith answer = joinBut (λ j room right. cond (eqb (right .told .answer) answer) (leaving j (right .told .length) right) right)
+
+-- "With answer 10, and no other, joining also tells, as a number, the one-byte packet 07": with this answer, too
+abbrev pub faultWith : ℕ → JoinCall
+faultWith answer =
+    joinBut (λ j room right.
+    cond (eqb (right .told .answer) answer)
+    (joins (record { state = right .told .state; length = right .told .length; answer = answer; fault = faultPacket onlyChannel }) (right .room))
+    right)
 
 -- a byte goes to the start of the room, where join refuses
 abbrev pub joinSmearing : ℕ → JoinCall
 joinSmearing byte = joinBut (λ j room right. cond (eqb (right .told .answer) done) right (joins (right .told) (set room 0 byte)))
+
+-- a 000 is joined while a chain is open, as if none were
+abbrev pub beginsTwice : JoinCall
+beginsTwice m j packet room =
+    joined m (cond (eqb (chainOf (getD packet 0 0)) whole) (record { length = j .length; opened = false }) j) packet room
+
+-- "The part of a 000 or 001 goes to the start of the room": that of a 001, which opens a chain, goes behind what is joined, as that of a 010
+abbrev pub behindJoined : JoinCall
+behindJoined m j packet room =
+    let right : Joins = joined m j packet room in
+    cond (right .told .state .opened && not (j .opened)) (partAdded j packet middle room) right
+
+-- "total above 4,096": 4,097 bytes are joined where the room has them
+abbrev pub oneMore : JoinCall
+oneMore m j packet room =
+    let right : Joins = joined m j packet room in
+    let chain : ℕ = chainOf (getD packet 0 0) in
+    cond (eqb (right .told .answer) tooLong && (eqb (totalOf j chain (length packet)) (longest + 1) && ltb longest (length room)))
+    (partAdded j packet chain room)
+    right
+
+-- "secured bit set on 000 or 001, 12 (ignored on others, section 6.1)": also on 010
+abbrev pub securedMiddle : JoinCall
+securedMiddle m j packet room =
+    let right : Joins = joined m j packet room in
+    let pctr : ℕ = getD packet 0 0 in
+    cond (eqb (right .told .answer) done && (securedOf pctr && eqb (chainOf pctr) middle)) (joins (refusal onlyChannel j securedPacket) room) right
+
+-- channel 1 is taken for channel 0
+abbrev pub twoChannels : JoinCall
+twoChannels m j packet room =
+    let pctr : ℕ = getD packet 0 0 in
+    joined m j (cond (eqb (channelOf pctr) 1) (set packet 0 (pctr % 16)) packet) room
 
 pub record JoinShut : Type 0 where
   pub refuses : (answer : ℕ) → answer ≢ done → joinRefusing answer ≢ joined
@@ -139,7 +213,18 @@ pub record JoinShut : Type 0 where
   pub invents : (bytes : ℕ) → 1 ≤ bytes → joinInventing bytes ≢ joined
   pub short-room : joinSparing ≢ joined
   pub secured-drops : securedDrops ≢ joined
-  pub too-long-keeps : tooLongKeeps ≢ joined
+  pub too-long-keeps : keepsWith tooLong ≢ joined
+  pub fault-keeps : keepsWith chainFault ≢ joined
+  pub fault-told-keeps : keepsWith faultTold ≢ joined
+  pub fault-with-11 : faultWith otherChannel ≢ joined
+  pub fault-with-12 : faultWith securedPacket ≢ joined
+  pub fault-with-14 : faultWith tooLong ≢ joined
+  pub fault-with-15 : faultWith faultTold ≢ joined
+  pub begun-twice : beginsTwice ≢ joined
+  pub behind-the-joined : behindJoined ≢ joined
+  pub one-too-many : oneMore ≢ joined
+  pub secured-middle : securedMiddle ≢ joined
+  pub two-channels : twoChannels ≢ joined
   pub on-refusal : (byte : ℕ) → joinSmearing byte ≢ joined
 
 pub record ShutOut : Type 0 where
