@@ -52,11 +52,11 @@ cut-shut = record {
   past-the-last = λ same. eqb-false 0 16 refl (ap (λ (f : CutCall). f 11 message 2 buffer .told .answer) same);
   empty-message = λ same. eqb-false 0 13 refl (ap (λ (f : CutCall). f 11 [] 0 buffer .told .answer) same);
   behind-the-packet = λ byte same. other-differs byte (ap (λ (f : CutCall). getD (f 11 message 1 (replicate 11 (other byte)) .buffer) 2 0) same);
+  on-refusal = λ byte same. other-differs byte (ap (λ (f : CutCall). getD (f 11 message 0 (other byte ∷ []) .buffer) 0 0) same);
   one-byte-less = λ same. eqb-false 10 11 refl (ap (λ (f : CutCall). f 11 message 0 buffer .told .length) same);
   empty-counted = λ same. eqb-false 2 1 refl (ap (λ (f : CutCall). f 11 (replicate 10 1) 0 buffer .told .count) same);
   last-too-early = λ same. eqb-false 4 2 refl (ap (λ (f : CutCall). getD (f 11 (replicate 21 1) 1 buffer .buffer) 0 0) same);
   wrong-part = λ same. eqb-false 1 2 refl (ap (λ (f : CutCall). f 11 message 1 buffer .told .length) same);
-  on-refusal = λ byte same. other-differs byte (ap (λ (f : CutCall). getD (f 11 message 0 (other byte ∷ []) .buffer) 0 0) same);
 }
 
 join-shut : JoinShut

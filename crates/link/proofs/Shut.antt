@@ -138,6 +138,7 @@ pub shut-out : ShutOut
 unfolding started submitted frameTaken looked acknowledgedNow resynchronised takenHearing lookedBy lookedWhen freshOf put frameOf checksumOf
 shut-out = record {
   refuses = λ answer differs. each (refuse answer) (λ call. call one slots buffer .told .answer) differs differs differs differs differs;
+  refuses-done = λ answer differs. each (refuseDone answer) (λ call. call one slots buffer .told .answer) differs differs differs differs differs;
   repeats = λ same.
       each (repeat same) (λ call. call one slots buffer .told .sent - call one slots [] .told .sent)
       (same-less-same (length same) 5)
@@ -152,6 +153,13 @@ shut-out = record {
       (eqb-false 0 6 refl)
       (eqb-false 0 5 refl)
       (eqb-false 0 5 refl);
+  idles-done =
+      each (refuseDone 0) (λ call. call one slots buffer .told .sent)
+      (eqb-false 0 6 refl)
+      (eqb-false 0 6 refl)
+      (eqb-false 0 6 refl)
+      (eqb-false 0 5 refl)
+      (eqb-false 0 5 refl);
   pretends =
       each pretend (λ call. getD (call one slots buffer .frame) 0 0)
       (eqb-false 0 0x05 refl)
@@ -159,6 +167,9 @@ shut-out = record {
       (eqb-false 0 0x01 refl)
       (eqb-false 0 0x81 refl)
       (eqb-false 0 0xC0 refl);
+  stays =
+      let wrong : _≢_ {A = ℕ} 1 0 = eqb-false 1 0 refl in
+      each stay (λ call. bit (call one slots buffer .told .state .acking)) wrong wrong wrong wrong wrong;
   invents = λ delivered dropped more.
       let none : 0 + delivered + (0 + dropped) ≢ 0 = none-invented delivered dropped more in
       each (invent delivered dropped) (λ call. call one slots [] .told .delivered + call one slots [] .told .dropped) none none none none none;
@@ -177,22 +188,12 @@ shut-out = record {
   lost-before-short =
       let wrong : _≢_ {A = ℕ} 3 2 = eqb-false 3 2 refl in
       each lostFirst (λ call. call (withLost one true) [] [] .told .answer) wrong wrong wrong wrong wrong;
-  refuses-done = λ answer differs. each (refuseDone answer) (λ call. call one slots buffer .told .answer) differs differs differs differs differs;
-  idles-done =
-      each (refuseDone 0) (λ call. call one slots buffer .told .sent)
-      (eqb-false 0 6 refl)
-      (eqb-false 0 6 refl)
-      (eqb-false 0 6 refl)
-      (eqb-false 0 5 refl)
-      (eqb-false 0 5 refl);
-  stays =
-      let wrong : _≢_ {A = ℕ} 1 0 = eqb-false 1 0 refl in
-      each stay (λ call. bit (call one slots buffer .told .state .acking)) wrong wrong wrong wrong wrong;
   one-count =
       let wrong : _≢_ {A = ℕ} 0 1 = eqb-false 0 1 refl in
       each oneCount (λ call. call (withRepeated one (0 ∷ 4 ∷ [])) slots buffer .told .answer) wrong wrong wrong wrong wrong;
   start = record {
     refuses = λ answer differs same. differs (ap (λ (f : StartCall). f (settings 2) 22 .answer) same);
+    refuses-done = λ answer differs same. differs (ap (λ (f : StartCall). f (settings 2) 22 .answer) same);
     idles = λ same. eqb-false 0 2 refl (ap (λ (f : StartCall). f (settings 2) 22 .state .settings .window) same);
     invents = λ delivered dropped more same. none-invented delivered dropped more (ap (λ (f : StartCall). f (settings 2) 22 .delivered + f (settings 2) 22 .dropped) same);
     short-slots = λ same. eqb-false 0 2 refl (ap (λ (f : StartCall). f (settings 2) 21 .answer) same);
@@ -230,6 +231,7 @@ shut-out = record {
     nak-in-step-3 = λ same. eqb-false 5 0 refl (ap (λ (f : Call). f one slots buffer 0 (frameOf format 0x80 packet) .told .sent) same);
     over-gap = λ same. eqb-false 1 0 refl (ap (λ (f : Call). f one slots buffer 0 (numbered 3) .told .delivered) same);
     timer-left-by-repeat = λ same. eqb-false 1 0 refl (ap (λ (f : Call). bit (f one slots buffer 0 (nakFrame format 0) .told .state .acking)) same);
+    timer-left-by-ack = λ same. eqb-false 1 0 refl (ap (λ (f : Call). bit (f one slots buffer 0 (numbered 1) .told .state .acking)) same);
     len-0 = λ same. eqb-false 0 6 refl (ap (λ (f : Call). f (withExpected one 0) slots buffer 0 (replicate 5 0) .told .answer) same);
     over-d = λ same. eqb-false 12 0 refl (ap (λ (f : Call). f one slots buffer 0 (dataFrame format 2 3 (replicate 12 1)) .told .delivered) same);
     code-as-sum = λ same. eqb-false 6 7 refl (ap (λ (f : Call). f one slots buffer 0 (frameOf format 0x10 packet) .told .answer) same);
@@ -247,7 +249,6 @@ shut-out = record {
     reset-mark-left = λ same. eqb-false 1 0 refl (ap (λ (f : Call). bit (f (withNakmark one true) slots buffer 0 (resetFrame format) .told .state .nakmark)) same);
     repeat-not-counted = λ same. eqb-false 0 1 refl (ap (λ (f : Call). getD (f one slots buffer 0 (nakFrame format 0) .told .state .repeated) 0 0) same);
     other-slot = λ same. eqb-false 2 1 refl (ap (λ (f : Call). getD (f one filled buffer 0 (nakFrame format 0) .frame) 3 0) same);
-    timer-left-by-ack = λ same. eqb-false 1 0 refl (ap (λ (f : Call). bit (f one slots buffer 0 (numbered 1) .told .state .acking)) same);
   };
   look = record {
     repeats-where-sent = λ bytes same.
@@ -256,6 +257,11 @@ shut-out = record {
     passed-over = λ same. eqb-false 0 3 refl (ap (λ (f : LookCall). f (withRepeated two (3 ∷ 0 ∷ [])) slots buffer 100 .told .outcome .answer) same);
     timer-left-by-repeat = λ same. eqb-false 1 0 refl (ap (λ (f : LookCall). bit (f one slots buffer 100 .told .outcome .state .acking)) same);
     timer-left-by-ack = λ same. eqb-false 1 0 refl (ap (λ (f : LookCall). bit (f none slots buffer 100 .told .outcome .state .acking)) same);
+    by-size-wrapped = λ same.
+        eqb-false 6 0 refl
+        (ap (λ (f : LookCall). f (withStarts (withAcking one false) (4294967276 ∷ 0 ∷ [])) slots buffer 4294967277 .told .outcome .sent) same);
+    by-size = λ same.
+        eqb-false 0 6 refl (ap (λ (f : LookCall). f (withStarts (withAcking one false) (4294967276 ∷ 0 ∷ [])) slots buffer 80 .told .outcome .sent) same);
     backwards = λ same. eqb-false 6 0 refl (ap (λ (f : LookCall). f one slots buffer 1 .told .outcome .sent) same);
     clock-turned = λ same. eqb-false 6 0 refl (ap (λ (f : LookCall). f one slots buffer 1 .told .outcome .sent) same);
     wrong-timeout = λ same. eqb-false 6 5 refl (ap (λ (f : LookCall). f one slots buffer 50 .told .outcome .sent) same);
@@ -265,20 +271,15 @@ shut-out = record {
     other-timer = λ same. eqb-false 0 100 refl (ap (λ (f : LookCall). getD (f one slots buffer 100 .told .outcome .state .starts) 0 0) same);
     stale-ack = λ same. eqb-false 0x00 0x01 refl (ap (λ (f : LookCall). getD (f one slots buffer 100 .frame) 0 0) same);
     nak-for-ack = λ same. eqb-false 0xA1 0x81 refl (ap (λ (f : LookCall). getD (f none slots buffer 100 .frame) 0 0) same);
-    by-size-wrapped = λ same.
-        eqb-false 6 0 refl
-        (ap (λ (f : LookCall). f (withStarts (withAcking one false) (4294967276 ∷ 0 ∷ [])) slots buffer 4294967277 .told .outcome .sent) same);
-    by-size = λ same.
-        eqb-false 0 6 refl (ap (λ (f : LookCall). f (withStarts (withAcking one false) (4294967276 ∷ 0 ∷ [])) slots buffer 80 .told .outcome .sent) same);
   };
   acknowledge = record {
-    nak-for-ack = λ same. eqb-false 0xA1 0x81 refl (ap (λ (f : Bare). getD (f one slots buffer .frame) 0 0) same);
     repeats-where-sent = λ bytes same.
         same-less-same (getD (put buffer 0 bytes) 0 0) 0
         (ap (λ (f : Bare). getD (f one slots buffer .frame) 0 0 - getD (f (withExpected one 1) slots buffer .frame) 0 0) same);
     timer-left = λ same. eqb-false 1 0 refl (ap (λ (f : Bare). bit (f one slots buffer .told .state .acking)) same);
+    nak-for-ack = λ same. eqb-false 0xA1 0x81 refl (ap (λ (f : Bare). getD (f one slots buffer .frame) 0 0) same);
   };
+  resynchronise-when-lost = λ same. eqb-false 3 0 refl (ap (λ (f : Bare). f (withLost one true) slots buffer .told .answer) same);
   resynchronise-no-drops = λ same. eqb-false 0 1 refl (ap (λ (f : Bare). f one slots buffer .told .dropped) same);
   resynchronise-mark-left = λ same. eqb-false 1 0 refl (ap (λ (f : Bare). bit (f (withNakmark one true) slots buffer .told .state .nakmark)) same);
-  resynchronise-when-lost = λ same. eqb-false 3 0 refl (ap (λ (f : Bare). f (withLost one true) slots buffer .told .answer) same);
 }

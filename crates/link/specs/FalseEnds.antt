@@ -235,6 +235,8 @@ fullFirst =
 abbrev pub shortFirst : StartCall
 shortFirst s slots = cond (ltb slots (slotsNeed s)) (only zeros shortBuffer) (started s slots)
 
+-- ---- a state handed in
+
 -- "a repeat count above TRANS_REPEAT": in slot 1 it is taken for TRANS_REPEAT
 abbrev pub oneCount : Change
 oneCount call l = call (withRepeated l (set (l .repeated) 1 (leastOf (getD (l .repeated) 1 0) (l .settings .repeats))))
@@ -243,6 +245,12 @@ oneCount call l = call (withRepeated l (set (l .repeated) 1 (leastOf (getD (l .r
 
 abbrev pub startRefusing : ℕ → StartCall
 startRefusing answer s slots = only zeros answer
+
+-- only what is to be done, and the state is right
+abbrev pub startRefusingDone : ℕ → StartCall
+startRefusingDone answer s slots =
+    let right : Outcome = started s slots in
+    cond (eqb (right .answer) done) (only (right .state) answer) right
 
 abbrev pub startInventing : ℕ → ℕ → StartCall
 startInventing delivered dropped s slots = counting delivered dropped (started s slots)
@@ -256,14 +264,14 @@ startLeaving other answer s slots =
     let right : Outcome = started s slots in
     cond (eqb (right .answer) answer) (only other answer) right
 
--- settings are in range also if they are with one less, by `less`, of one setting ..
+-- content also with settings that would be in range with one less of one of them: ..
 abbrev pub startMore : (Settings → Settings) → StartCall
 startMore less s slots =
     cond (inRange s || inRange (less s))
     (cond (ltb slots (slotsNeed s)) (only zeros shortBuffer) (only (freshOf s) done))
     (only zeros outOfRange)
 
--- .. so an acknowledge timeout is that is as long as TRANS_TIMEOUT, ..
+-- .. with an acknowledge timeout as long as TRANS_TIMEOUT, ..
 abbrev pub lessAcktimeout : Settings → Settings
 lessAcktimeout s = record {
   format = s .format;
@@ -273,7 +281,7 @@ lessAcktimeout s = record {
   repeats = s .repeats;
 }
 
--- .. and a WIN_SIZE of 3
+-- .. or a WIN_SIZE of 3
 abbrev pub lessWindow : Settings → Settings
 lessWindow s = record {
   format = s .format;
@@ -297,19 +305,17 @@ belowLimit l slots frame ms packet =
     let right : After Outcome = submitted l slots frame ms packet in
     cond ((answers done right || answers windowFull right) && eqb (length packet) (limitOf (l .settings))) (refused l packetSize slots frame) right
 
--- the packet goes to another slot than "the slot numbered (frame number modulo WIN_SIZE)": ..
+-- the packet goes to another slot than "the slot numbered (frame number modulo WIN_SIZE)", by its number
 abbrev pub slotBy : (ℕ → ℕ) → Call
 slotBy slot l slots frame ms packet =
     let right : After Outcome = submitted l slots frame ms packet in
     cond (answers done right) (after (right .told) (put slots (slot (l .next) * limitOf (l .settings)) packet) (right .frame)) right
 
--- .. modulo 2, whatever WIN_SIZE is
-abbrev pub byTwo : ℕ → ℕ
-byTwo number = number % 2
-
--- pretends only in this: past packet 0 none is copied
+-- once a packet has been sent, all is as it should be but that no other is copied
 abbrev pub notCopied : Call
-notCopied = submitBut (λ call l slots frame. let right : After Outcome = call l slots frame in cond (eqb (l .next) 0) right (after (right .told) slots (right .frame)))
+notCopied = submitBut (λ call l slots frame.
+    let right : After Outcome = call l slots frame in
+    after (right .told) (cond (eqb (l .next) 0) (right .slots) slots) (right .frame))
 
 -- "sets its repeat count to 0": to this
 abbrev pub countFrom : ℕ → Call
@@ -370,7 +376,7 @@ nakForAck = instead sendsControl (λ l slots frame right. writing (nakFrame (l .
 abbrev pub notCounted : Change
 notCounted = instead sendsData (λ l slots frame right. leaving (withRepeated (right .told .state) (l .repeated)) right)
 
--- the bytes, or at a first sending and at a repeat the timer, of the other slot, where there are two
+-- made of as many bytes of the other slot, where there are two
 abbrev pub otherSlot : Change
 otherSlot =
     instead sendsData (λ l slots frame right.
@@ -378,6 +384,7 @@ otherSlot =
     let packet : List ℕ = take (lengthOf l number) (drop (partOf l (number + 1)) slots) in
     writing (frameOf (l .settings .format) (fctrOf (right .frame)) packet) right)
 
+-- the timer of the other slot is started, at a first sending or at a repeat
 abbrev pub otherTimer : ℕ → Change
 otherTimer ms =
     instead sendsData (λ l slots frame right.
@@ -529,7 +536,7 @@ turned l n ms = ltb n (l .waiting) && backwards (l .settings .transtimeout) (sta
 abbrev pub early : Link → ℕ → ℕ → Bool
 early l n ms = ltb n (l .waiting) && due (l .settings .acktimeout) (startOf l (sentBefore l n)) ms
 
--- .. also of the packet that was freed last
+-- .. also where none waits, and the packet was freed
 abbrev pub freedToo : Link → ℕ → ℕ → Bool
 freedToo l n ms = leb n (l .waiting) && due (l .settings .transtimeout) (startOf l (sentBefore l n)) ms
 
@@ -543,19 +550,12 @@ nakFrees kind l slots frame ms received =
     cond ((answers done right || answers unexpected right) && (isNak fctr && kind fctr))
     (leaving (freed (right .told .state) ((acknowledgedOf fctr + 3) % 4)) right) right
 
--- an ACK k that is to free two, the most that wait, leaves so many of them: all, as if it were obeyed only where k is the oldest, ..
-abbrev pub twoFreed : (ℕ → ℕ) → Call
-twoFreed left =
+-- an ACK k that is to free two, the most that wait, frees so many: none, as if it were obeyed only where k is the oldest, or one
+abbrev pub freesOnly : ℕ → Call
+freesOnly freed =
     takeBut (instead (λ right. eqb (right .told .dropped) 0)
     (λ l slots frame right.
-    leaving (cond (ltb (right .told .state .waiting + 1) (l .waiting)) (withWaiting (right .told .state) (left (l .waiting))) (right .told .state)) right))
-
-abbrev pub all : ℕ → ℕ
-all waiting = waiting
-
--- .. or all but one
-abbrev pub allButOne : ℕ → ℕ
-allButOne waiting = waiting - 1
+    leaving (cond (ltb (right .told .state .waiting + 1) (l .waiting)) (withWaiting (right .told .state) (l .waiting - freed)) (right .told .state)) right))
 
 -- a NAK "is sent at most once until the next delivery": the mark outlives it
 abbrev pub keepsMark : Call
@@ -580,7 +580,7 @@ losesAtOnce = instead sendsData (λ l slots frame right. exhausted l slots frame
 pub record ShutOutAlone : Type 0 where
   pub nak-frees : nakFrees isControl ≢ frameTaken
   pub nak-in-data-frees : nakFrees (λ fctr. not (isControl fctr)) ≢ frameTaken
-  pub ack-for-the-oldest-only : twoFreed all ≢ frameTaken
+  pub ack-for-the-oldest-only : freesOnly 0 ≢ frameTaken
   pub mark-kept : keepsMark ≢ frameTaken
   pub silent-duplicate : forDuplicate silent ≢ frameTaken
   pub nak-for-a-duplicate : forDuplicate sendsNak ≢ frameTaken
@@ -591,6 +591,7 @@ pub record ShutOutAlone : Type 0 where
 
 pub record StartShut : Type 0 where
   pub refuses : (answer : ℕ) → answer ≢ done → startRefusing answer ≢ started
+  pub refuses-done : (answer : ℕ) → answer ≢ done → startRefusingDone answer ≢ started
   pub idles : startRefusing done ≢ started
   pub invents : (delivered dropped : ℕ) → 1 ≤ delivered + dropped → startInventing delivered dropped ≢ started
   pub short-slots : startSparing ≢ started
@@ -605,7 +606,7 @@ pub record SubmitShut : Type 0 where
   pub repeats-where-sent : (same : List ℕ) → submitBut (repeatWhereSent same) ≢ submitted
   pub full-before-size : fullFirst ≢ submitted
   pub slots-on-refusal : (byte : ℕ) → submitBut (smearSlots byte) ≢ submitted
-  pub slot-by-two : slotBy byTwo ≢ submitted
+  pub slot-by-two : slotBy (λ number. number % 2) ≢ submitted
   pub timer-left : submitBut (timerLeft sendsData) ≢ submitted
   pub below-m : belowLimit ≢ submitted
   pub first-slot-only : slotBy (λ number. 0) ≢ submitted
@@ -632,7 +633,7 @@ pub record TakeShut : Type 0 where
   pub nak-names-last : naksLast ≢ frameTaken
   pub nak-stops-timer : nakStops ≢ frameTaken
   pub nak-ignored : nakIgnored ≢ frameTaken
-  pub frees-one-only : twoFreed allButOne ≢ frameTaken
+  pub frees-one-only : freesOnly 1 ≢ frameTaken
   pub timer-restarted : restarts ≢ frameTaken
   pub duplicate-counted : (delivered dropped : ℕ) → 1 ≤ delivered + dropped → inventDuplicate delivered dropped ≢ frameTaken
   pub reset-answered : onReset tellsFrame ≢ frameTaken
@@ -666,18 +667,18 @@ pub record AcknowledgeShut : Type 0 where
 pub record ShutOut : Type 0 where
   -- each of the five calls on a state
   pub refuses : (answer : ℕ) → answer ≢ done → Shows (refuse answer)
+  pub refuses-done : (answer : ℕ) → answer ≢ done → Shows (refuseDone answer)
   pub repeats : (same : List ℕ) → Shows (repeat same)
   pub idles : Shows (refuse done)
+  pub idles-done : Shows (refuseDone done)
   pub pretends : Shows pretend
+  pub stays : Shows stay
   pub invents : (delivered dropped : ℕ) → 1 ≤ delivered + dropped → Shows (invent delivered dropped)
   pub short-slots : Shows spareSlots
   pub short-frame : Shows spareFrame
   pub past-the-frame : (byte : ℕ) → Shows (overrun byte)
   pub on-refusal : (byte : ℕ) → Shows (smear byte)
   pub lost-before-short : Shows lostFirst
-  pub refuses-done : (answer : ℕ) → answer ≢ done → Shows (refuseDone answer)
-  pub idles-done : Shows (refuseDone done)
-  pub stays : Shows stay
   pub one-count : Shows oneCount
   -- one of them
   pub start : StartShut
