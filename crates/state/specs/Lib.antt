@@ -5,3 +5,4 @@ pub mod Gate
 pub mod Timer
 pub mod Calls
 pub mod Formed
+pub mod FalseTimes
