@@ -73,6 +73,7 @@ join-shut = record {
       omega (arith, more, e);
   short-room = λ same. eqb-false 0 2 refl (ap (λ (f : JoinCall). f 11 freshJoining (0 ∷ 1 ∷ []) (replicate 4095 0) .told .answer) same);
   secured-drops = λ same. eqb-false 0 1 refl (ap (λ (f : JoinCall). f 11 (record { length = 1; opened = false }) (8 ∷ 1 ∷ []) room .told .state .length) same);
+  channel-drops = λ same. eqb-false 0 1 refl (ap (λ (f : JoinCall). f 11 (begun 1) (16 ∷ 1 ∷ []) room .told .state .length) same);
   too-long-keeps = λ same.
       eqb-false 4096 0 refl (ap (λ (f : JoinCall). f 11 (begun 4096) (4 ∷ 1 ∷ []) room .told .state .length) same);
   fault-keeps = λ same. eqb-false 1 0 refl (ap (λ (f : JoinCall). f 11 (begun 1) (0 ∷ 1 ∷ []) room .told .state .length) same);
@@ -82,11 +83,13 @@ join-shut = record {
   fault-with-14 = λ same. eqb-false 7 0 refl (ap (λ (f : JoinCall). f 11 (begun 4096) (4 ∷ 1 ∷ []) room .told .fault) same);
   fault-with-15 = λ same. eqb-false 7 0 refl (ap (λ (f : JoinCall). f 11 freshJoining (7 ∷ []) room .told .fault) same);
   begun-twice = λ same. eqb-false 0 10 refl (ap (λ (f : JoinCall). f 11 (begun 1) (0 ∷ 1 ∷ []) room .told .answer) same);
+  orphan = λ same. eqb-false 0 10 refl (ap (λ (f : JoinCall). f 11 freshJoining (4 ∷ 1 ∷ []) room .told .answer) same);
   behind-the-joined = λ same.
       eqb-false 11 10 refl (ap (λ (f : JoinCall). f 11 (record { length = 1; opened = false }) (1 ∷ replicate 10 1) room .told .state .length) same);
   one-too-many = λ same. eqb-false 4097 0 refl (ap (λ (f : JoinCall). f 11 (begun 4096) (4 ∷ 1 ∷ []) (replicate 4097 0) .told .length) same);
   secured-middle = λ same. eqb-false 12 0 refl (ap (λ (f : JoinCall). f 11 (begun 10) (10 ∷ replicate 10 1) room .told .answer) same);
   two-channels = λ same. eqb-false 0 11 refl (ap (λ (f : JoinCall). f 11 freshJoining (16 ∷ 1 ∷ []) room .told .answer) same);
+  behind-the-part = λ byte same. other-differs byte (ap (λ (f : JoinCall). getD (f 11 freshJoining (0 ∷ 1 ∷ []) (replicate 4096 (other byte)) .room) 1 0) same);
   on-refusal = λ byte same. other-differs byte (ap (λ (f : JoinCall). getD (f 11 freshJoining [] (other byte ∷ []) .room) 0 0) same);
 }
 

@@ -2,7 +2,7 @@
 -- input, so a call that is to meet it is that function. Each wrong one here is a function too, the true one but for one thing, and ShutOut says
 -- that it is not the true one.
 use Prim.Native.Nat.{ℕ, _+_, _-_, _*_, _/_, _%_, _≤_}
-use mathlib.Core.Bool.{false, cond, not, _&&_}
+use mathlib.Core.Bool.{Bool, true, false, cond, not, _&&_}
 use mathlib.Core.List.{List, [], _∷_, _++_}
 use mathlib.Core.Logic.{_≢_}
 use lib.ListN.{length, take, drop, getD, set}
@@ -10,7 +10,7 @@ use lib.Dec.{eqb, ltb}
 use Rattle.base.specs.Answer.{done, messageSize, noSuchPacket, chainFault, otherChannel, securedPacket, tooLong, faultTold}
 use Rattle.base.specs.Buffer.{put}
 use Rattle.chain.specs.declared.Joining.{Joining}
-use Rattle.chain.specs.Pctr.{onlyChannel, channelOf, securedOf, chainOf, pctrOf, whole, middle}
+use Rattle.chain.specs.Pctr.{onlyChannel, channelOf, securedOf, chainOf, pctrOf, whole, middle, last}
 use Rattle.chain.specs.Cut.{longest, partSize, packetCount, chainAt, partAt, packetAt, Cutting, cutting, given, cutOut}
 use Rattle.chain.specs.Join.{closed, Joins, joins, faultPacket, refusal, totalOf, partAdded, joined}
 
@@ -152,9 +152,9 @@ joinSparing m j packet room =
     let longer : Joins = joined m j packet (room ++ (0 ∷ [])) in
     joins (longer .told) (take (length room) (longer .room))
 
--- another state with an answer: 12 that drops the chain (with 12 none is open, or it were 10: what a state may still have is a length), ..
-abbrev pub securedDrops : JoinCall
-securedDrops = joinBut (λ j room right. cond (eqb (right .told .answer) securedPacket) (leaving (closed j) (right .told .length) right) right)
+-- another state with an answer: 11 or 12 that drops the chain (with 12 none is open, or it were 10: what a state may still have is a length), ..
+abbrev pub dropsWith : ℕ → JoinCall
+dropsWith answer = joinBut (λ j room right. cond (eqb (right .told .answer) answer) (leaving (closed j) (right .told .length) right) right)
 
 -- .. or 10, 14 or 15 that keeps it
 abbrev pub keepsWith : ℕ → JoinCall
@@ -172,10 +172,15 @@ faultWith answer =
 abbrev pub joinSmearing : ℕ → JoinCall
 joinSmearing byte = joinBut (λ j room right. cond (eqb (right .told .answer) done) right (joins (right .told) (set room 0 byte)))
 
--- a 000 is joined while a chain is open, as if none were
-abbrev pub beginsTwice : JoinCall
-beginsTwice m j packet room =
-    joined m (cond (eqb (chainOf (getD packet 0 0)) whole) (record { length = j .length; opened = false }) j) packet room
+-- or right behind what is joined, where join does not
+abbrev pub joinOverrunning : ℕ → JoinCall
+joinOverrunning byte =
+    joinBut (λ j room right.
+    cond (eqb (right .told .answer) done) (joins (right .told) (set (right .room) (right .told .state .length + right .told .length) byte)) right)
+
+-- a packet with such a CHAIN is joined as if a chain were open, or as if none were: a 000 while one is, or a 100 while none is
+abbrev pub asIf : ℕ → Bool → JoinCall
+asIf chain opened m j packet room = joined m (cond (eqb (chainOf (getD packet 0 0)) chain) (record { length = j .length; opened = opened }) j) packet room
 
 -- "The part of a 000 or 001 goes to the start of the room": that of a 001, which opens a chain, goes behind what is joined, as that of a 010
 abbrev pub behindJoined : JoinCall
@@ -212,7 +217,8 @@ pub record JoinShut : Type 0 where
   pub pretends : joinPretending ≢ joined
   pub invents : (bytes : ℕ) → 1 ≤ bytes → joinInventing bytes ≢ joined
   pub short-room : joinSparing ≢ joined
-  pub secured-drops : securedDrops ≢ joined
+  pub secured-drops : dropsWith securedPacket ≢ joined
+  pub channel-drops : dropsWith otherChannel ≢ joined
   pub too-long-keeps : keepsWith tooLong ≢ joined
   pub fault-keeps : keepsWith chainFault ≢ joined
   pub fault-told-keeps : keepsWith faultTold ≢ joined
@@ -220,12 +226,14 @@ pub record JoinShut : Type 0 where
   pub fault-with-12 : faultWith securedPacket ≢ joined
   pub fault-with-14 : faultWith tooLong ≢ joined
   pub fault-with-15 : faultWith faultTold ≢ joined
-  pub begun-twice : beginsTwice ≢ joined
+  pub begun-twice : asIf whole false ≢ joined
+  pub orphan : asIf last true ≢ joined
   pub behind-the-joined : behindJoined ≢ joined
   pub one-too-many : oneMore ≢ joined
   pub secured-middle : securedMiddle ≢ joined
   pub two-channels : twoChannels ≢ joined
   pub on-refusal : (byte : ℕ) → joinSmearing byte ≢ joined
+  pub behind-the-part : (byte : ℕ) → joinOverrunning byte ≢ joined
 
 pub record ShutOut : Type 0 where
   pub cut : CutShut

@@ -21,7 +21,7 @@ use Rattle.state.specs.Calls.{started, resynchronised}
 use Rattle.send.specs.Submit.{submitted}
 use Rattle.receive.specs.Take.{frameTaken}
 use Rattle.clock.specs.Look.{looked, acknowledgedNow}
-use Rattle.link.specs.FalseEnds.{StartCall, Call, LookCall, Bare, Change, submitBut, takeBut, outcomeOf, lookBut, Shows, refuse, repeat, pretend, invent, spareSlots, spareFrame, overrun, smear, lostFirst, refuseDone, stay, oneCount, takenHearing, TakenHearingTrue, lookedBy, lookedWhen, LookedWhenTrue, ShutOut, ShutOutAlone}
+use Rattle.link.specs.FalseEnds.{StartCall, Call, LookCall, Bare, Change, submitBut, takeBut, outcomeOf, lookBut, Shows, refuse, repeat, pretend, invent, spareSlots, spareFrame, overrun, smear, lengthsFirst, lostFirst, refuseDone, stay, oneCount, takenHearing, TakenHearingTrue, lookedBy, lookedWhen, LookedWhenTrue, ShutOut, ShutOutAlone}
 
 -- ---- where they are tried
 
@@ -130,7 +130,6 @@ shut-out-alone = record {
   mark-kept = λ same. eqb-false 1 0 refl (ap (λ (f : Call). bit (f (withNakmark one true) slots buffer 0 (numbered 2) .told .state .nakmark)) same);
   silent-duplicate = λ same. eqb-false 0 5 refl (ap (λ (f : Call). f one slots buffer 0 (numbered 1) .told .sent) same);
   nak-for-a-duplicate = λ same. eqb-false 0xA2 0x81 refl (ap (λ (f : Call). getD (f one slots buffer 0 (numbered 1) .frame) 0 0) same);
-  timer-never-sends = λ same. eqb-false 0 5 refl (ap (λ (f : LookCall). f none slots buffer 100 .told .outcome .sent) same);
   lost-at-once = λ same. eqb-false 3 0 refl (ap (λ (f : LookCall). f one slots buffer 100 .told .outcome .answer) same);
 }
 
@@ -185,6 +184,9 @@ shut-out = record {
   on-refusal = λ byte.
       let wrong : byte ≢ other byte = other-differs byte in
       each (smear byte) (λ call. getD (call one [] (other byte ∷ []) .frame) 0 0) wrong wrong wrong wrong wrong;
+  short-before-range =
+      let wrong : _≢_ {A = ℕ} 2 1 = eqb-false 2 1 refl in
+      each lengthsFirst (λ call. call (end 2 4 0) [] [] .told .answer) wrong wrong wrong wrong wrong;
   lost-before-short =
       let wrong : _≢_ {A = ℕ} 3 2 = eqb-false 3 2 refl in
       each lostFirst (λ call. call (withLost one true) [] [] .told .answer) wrong wrong wrong wrong wrong;
@@ -210,6 +212,7 @@ shut-out = record {
         (ap (λ (f : Call). getD (f one slots buffer 0 (2 ∷ []) .frame) 3 0 - getD (f one slots buffer 0 packet .frame) 3 0) same);
     full-before-size = λ same. eqb-false 5 4 refl (ap (λ (f : Call). f two slots buffer 0 [] .told .answer) same);
     slots-on-refusal = λ byte same. other-differs byte (ap (λ (f : Call). getD (f one (other byte ∷ []) [] 0 packet .slots) 0 0) same);
+    past-the-packet = λ byte same. other-differs byte (ap (λ (f : Call). getD (f none (replicate 22 (other byte)) buffer 0 packet .slots) 12 0) same);
     slot-by-two = λ same. eqb-false 0 1 refl (ap (λ (f : Call). getD (f (end 1 1 0) slots buffer 0 packet .slots) 0 0) same);
     timer-left = λ same. eqb-false 1 0 refl (ap (λ (f : Call). bit (f one slots buffer 0 packet .told .state .acking)) same);
     below-m = λ same. eqb-false 4 0 refl (ap (λ (f : Call). f one slots buffer 0 (replicate 11 1) .told .answer) same);
@@ -227,6 +230,7 @@ shut-out = record {
     repeats-where-sent = λ bytes same.
         same-less-same (getD (put buffer 0 bytes) 0 0) 0x7F
         (ap (λ (f : Call). getD (f one slots buffer 0 (numbered 1) .frame) 0 0 - getD (f one slots buffer 0 (nakFrame format 0) .frame) 0 0) same);
+    on-silence = λ byte same. other-differs byte (ap (λ (f : Call). getD (f one slots (replicate 16 (other byte)) 0 (ackFrame format 3) .frame) 0 0) same);
     reset-when-lost = λ same. eqb-false 0 3 refl (ap (λ (f : Call). f (withLost one true) slots buffer 0 (resetFrame format) .told .answer) same);
     nak-in-step-3 = λ same. eqb-false 5 0 refl (ap (λ (f : Call). f one slots buffer 0 (frameOf format 0x80 packet) .told .sent) same);
     over-gap = λ same. eqb-false 1 0 refl (ap (λ (f : Call). f one slots buffer 0 (numbered 3) .told .delivered) same);
@@ -254,9 +258,11 @@ shut-out = record {
     repeats-where-sent = λ bytes same.
         same-less-same (getD (put buffer 0 bytes) 0 0) 0x7F
         (ap (λ (f : LookCall). getD (f none slots buffer 100 .frame) 0 0 - getD (f one slots buffer 100 .frame) 0 0) same);
+    on-silence = λ byte same. other-differs byte (ap (λ (f : LookCall). getD (f one slots (replicate 16 (other byte)) 0 .frame) 0 0) same);
     passed-over = λ same. eqb-false 0 3 refl (ap (λ (f : LookCall). f (withRepeated two (3 ∷ 0 ∷ [])) slots buffer 100 .told .outcome .answer) same);
     timer-left-by-repeat = λ same. eqb-false 1 0 refl (ap (λ (f : LookCall). bit (f one slots buffer 100 .told .outcome .state .acking)) same);
     timer-left-by-ack = λ same. eqb-false 1 0 refl (ap (λ (f : LookCall). bit (f none slots buffer 100 .told .outcome .state .acking)) same);
+    timer-never-sends = λ same. eqb-false 0 5 refl (ap (λ (f : LookCall). f none slots buffer 100 .told .outcome .sent) same);
     by-size-wrapped = λ same.
         eqb-false 6 0 refl
         (ap (λ (f : LookCall). f (withStarts (withAcking one false) (4294967276 ∷ 0 ∷ [])) slots buffer 4294967277 .told .outcome .sent) same);
@@ -276,6 +282,7 @@ shut-out = record {
     repeats-where-sent = λ bytes same.
         same-less-same (getD (put buffer 0 bytes) 0 0) 0
         (ap (λ (f : Bare). getD (f one slots buffer .frame) 0 0 - getD (f (withExpected one 1) slots buffer .frame) 0 0) same);
+    on-silence = λ byte same. other-differs byte (ap (λ (f : Bare). getD (f (withAcking one false) slots (replicate 16 (other byte)) .frame) 0 0) same);
     timer-left = λ same. eqb-false 1 0 refl (ap (λ (f : Bare). bit (f one slots buffer .told .state .acking)) same);
     nak-for-ack = λ same. eqb-false 0xA1 0x81 refl (ap (λ (f : Bare). getD (f one slots buffer .frame) 0 0) same);
   };

@@ -21,7 +21,7 @@ use Rattle.frame.specs.Steps.{fctrOf, sameBytes, isControl, isNak, numberOf, ac
 use Rattle.state.specs.declared.Settings.{Settings}
 use Rattle.state.specs.declared.Link.{Link}
 use Rattle.state.specs.declared.Outcome.{Outcome}
-use Rattle.state.specs.Bounds.{limitOf, inRange, slotsNeed}
+use Rattle.state.specs.Bounds.{limitOf, inRange, slotsNeed, frameNeed}
 use Rattle.state.specs.Fields.{withStarts, withAckstart, withRepeated, withExpected, withWaiting, withAcking, withNakmark, withLost}
 use Rattle.state.specs.State.{lastCorrect, sentBefore, slotOf, lengthOf, startOf, wellFormed, freshOf}
 use Rattle.state.specs.Timer.{due, acknowledgeDue}
@@ -145,7 +145,7 @@ repeat same call l slots frame =
 abbrev pub repeatWhereSent : List ℕ → Change
 repeatWhereSent same call = instead sends (λ l slots frame right. repeat same call l slots frame) call
 
--- once a packet has been sent, all is told as it should be, and nothing is written
+-- packets of number 0 are served (a state cannot tell the fifth from the first); of all others it is told as it should be, and nothing is written
 abbrev pub pretend : Change
 pretend call l slots frame =
     let right : After Outcome = call l slots frame in
@@ -219,7 +219,22 @@ smear byte = instead refusesSilently (λ l slots frame right. after (right .told
 abbrev pub smearSlots : ℕ → Change
 smearSlots byte = instead refusesSilently (λ l slots frame right. after (right .told) (set slots 0 byte) frame)
 
+-- so it goes where the call is done and sends nothing
+abbrev pub smearDone : ℕ → Change
+smearDone byte = instead (λ right. answers done right && not (sends right)) (λ l slots frame right. after (right .told) slots (set frame 0 byte))
+
+-- "every other byte stays": a byte goes right behind the packet in the slot buffer
+abbrev pub overrunSlots : ℕ → Call
+overrunSlots byte l slots frame ms packet =
+    submitBut (instead (answers done) (λ l slots frame right. after (right .told) (set (right .slots) (partOf l (l .next) + length packet) byte) (right .frame)))
+    l slots frame ms packet
+
 -- ---- orders: "link calls 1, 2, 3, then 4, 5 or the frame steps; start 1, 2"
+
+-- 2 before 1
+abbrev pub lengthsFirst : Change
+lengthsFirst call l slots frame =
+    cond (ltb (length slots) (slotsNeed (l .settings)) || ltb (length frame) (frameNeed (l .settings))) (refused l shortBuffer slots frame) (call l slots frame)
 
 -- 3 before 2; and resynchronise should not ask 3 at all
 abbrev pub lostFirst : Change
@@ -471,6 +486,10 @@ passesOver l slots frame ms =
 abbrev pub staysLost : Bare
 staysLost = instead (answers done) (λ l slots frame right. cond (l .lost) (refused l linkLost slots frame) right) resynchronised
 
+-- of look: no control ACK is sent, and the timer runs on
+abbrev pub neverAcks : Change
+neverAcks = instead sendsControl (λ l slots frame right. refused l done slots frame)
+
 -- ---- take by another hearing
 
 -- frameTaken, with this in the place of `heard` (frame)
@@ -540,7 +559,7 @@ early l n ms = ltb n (l .waiting) && due (l .settings .acktimeout) (startOf l (s
 abbrev pub freedToo : Link → ℕ → ℕ → Bool
 freedToo l n ms = leb n (l .waiting) && due (l .settings .transtimeout) (startOf l (sentBefore l n)) ms
 
--- ---- seven that the statement of two ends (pair) does not see: the contracts alone shut them out
+-- ---- wrong ends for which no run is known that breaks the statement of two ends (pair): the contracts alone shut them out
 
 -- an accepted NAK k, in a frame of such an FCTR, is obeyed as it should be, and then taken as ACK k − 1, too
 abbrev pub nakFrees : (ℕ → Bool) → Call
@@ -564,16 +583,12 @@ keepsMark =
     (λ l slots frame right. leaving (withNakmark (right .told .state) (l .nakmark)) right))
 
 -- step 7, "an ACK for the last correct number goes out", with something else sent
-abbrev pub forDuplicate : (Link → List ℕ → Sending) → Call
-forDuplicate send =
+abbrev pub forUnexpected : (Link → List ℕ → Sending) → Call
+forUnexpected send =
     takeBut (instead (λ right. answers unexpected right && sendsControl right)
     (λ l slots frame right. concluded (send (withAcking (right .told .state) (l .acking)) frame) unexpected 0 slots))
 
--- of look: no control ACK is sent, and the timer runs on ..
-abbrev pub neverAcks : Change
-neverAcks = instead sendsControl (λ l slots frame right. refused l done slots frame)
-
--- .. or no packet is repeated, and the link is lost instead
+-- of look: no packet is repeated, and the link is lost instead
 abbrev pub losesAtOnce : Change
 losesAtOnce = instead sendsData (λ l slots frame right. exhausted l slots frame)
 
@@ -582,9 +597,8 @@ pub record ShutOutAlone : Type 0 where
   pub nak-in-data-frees : nakFrees (λ fctr. not (isControl fctr)) ≢ frameTaken
   pub ack-for-the-oldest-only : freesOnly 0 ≢ frameTaken
   pub mark-kept : keepsMark ≢ frameTaken
-  pub silent-duplicate : forDuplicate silent ≢ frameTaken
-  pub nak-for-a-duplicate : forDuplicate sendsNak ≢ frameTaken
-  pub timer-never-sends : lookBut neverAcks ≢ looked
+  pub silent-duplicate : forUnexpected silent ≢ frameTaken
+  pub nak-for-a-duplicate : forUnexpected sendsNak ≢ frameTaken
   pub lost-at-once : lookBut losesAtOnce ≢ looked
 
 -- ---- all others
@@ -606,6 +620,7 @@ pub record SubmitShut : Type 0 where
   pub repeats-where-sent : (same : List ℕ) → submitBut (repeatWhereSent same) ≢ submitted
   pub full-before-size : fullFirst ≢ submitted
   pub slots-on-refusal : (byte : ℕ) → submitBut (smearSlots byte) ≢ submitted
+  pub past-the-packet : (byte : ℕ) → overrunSlots byte ≢ submitted
   pub slot-by-two : slotBy (λ number. number % 2) ≢ submitted
   pub timer-left : submitBut (timerLeft sendsData) ≢ submitted
   pub below-m : belowLimit ≢ submitted
@@ -621,6 +636,7 @@ pub record SubmitShut : Type 0 where
 
 pub record TakeShut : Type 0 where
   pub repeats-where-sent : (same : List ℕ) → takeBut (repeatWhereSent same) ≢ frameTaken
+  pub on-silence : (byte : ℕ) → takeBut (smearDone byte) ≢ frameTaken
   pub reset-when-lost : hearsReset ≢ frameTaken
   pub nak-in-step-3 : naksStep3 ≢ frameTaken
   pub over-gap : overGap ≢ frameTaken
@@ -644,9 +660,11 @@ pub record TakeShut : Type 0 where
 
 pub record LookShut : Type 0 where
   pub repeats-where-sent : (same : List ℕ) → lookBut (repeatWhereSent same) ≢ looked
+  pub on-silence : (byte : ℕ) → lookBut (smearDone byte) ≢ looked
   pub passed-over : passesOver ≢ looked
   pub timer-left-by-repeat : lookBut (timerLeft sendsData) ≢ looked
   pub timer-left-by-ack : lookBut (timerLeft sendsControl) ≢ looked
+  pub timer-never-sends : lookBut neverAcks ≢ looked
   pub by-size-wrapped : lookedWhen bySizeWrapped ≢ looked
   pub by-size : lookedWhen bySize ≢ looked
   pub backwards : lookedWhen backwards ≢ looked
@@ -661,6 +679,7 @@ pub record LookShut : Type 0 where
 
 pub record AcknowledgeShut : Type 0 where
   pub repeats-where-sent : (same : List ℕ) → repeatWhereSent same acknowledgedNow ≢ acknowledgedNow
+  pub on-silence : (byte : ℕ) → smearDone byte acknowledgedNow ≢ acknowledgedNow
   pub timer-left : timerLeft sendsControl acknowledgedNow ≢ acknowledgedNow
   pub nak-for-ack : nakForAck acknowledgedNow ≢ acknowledgedNow
 
@@ -678,6 +697,7 @@ pub record ShutOut : Type 0 where
   pub short-frame : Shows spareFrame
   pub past-the-frame : (byte : ℕ) → Shows (overrun byte)
   pub on-refusal : (byte : ℕ) → Shows (smear byte)
+  pub short-before-range : Shows lengthsFirst
   pub lost-before-short : Shows lostFirst
   pub one-count : Shows oneCount
   -- one of them
