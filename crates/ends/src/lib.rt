@@ -1,9 +1,12 @@
 // Two ends of the link, the desk and the chip, the frames on their way between them, and one clock. Nothing is told here: each move
 // returns what came of it as a small value. Nothing is required of a caller: an end's number that is not DESK is the chip's.
+pub mod hearing;
 pub mod line;
 pub mod moves;
 pub mod rounds;
+mod stretch;
 
+use base::answer::DONE;
 use state::Link;
 use state::Settings;
 ghost use Prim.Native.Nat.{_≤_};
@@ -21,8 +24,9 @@ pub const STORE: usize = 136450;
 // chip, and a spare place. One store, in which an end has its offset, is lent to a move whichever end it is at.
 pub type Store = [u8; STORE];
 
-// first, queue: where in their ring the frames on their way to the end begin, and how many they are. taken, delivered, dropped: how many
-// packets it took, how many it delivered, and how many of those that it took a reset has dropped.
+// first, queue: where in their ring the frames on their way to the end begin, and how many they are. taken, delivered: how many packets it
+// took and delivered since the present stretch began, or since the last one was over. dropped: how many of all that it took a reset has
+// dropped.
 pub struct End {
     pub link: Link,
     pub first: usize,
@@ -32,13 +36,17 @@ pub struct End {
     pub dropped: u64,
 }
 
-// passed, rounds: the milliseconds and timer rounds since both ends started.
+// passed, rounds: the milliseconds and timer rounds since both ends started. stretch: how many stretches have begun since then, 0 where the
+// ends have not started. is_open: the last of them is not over. is_forged: a frame was forged in it.
 pub struct Ends {
     pub desk: End,
     pub chip: End,
     pub passed: u64,
     pub rounds: u64,
+    pub stretch: u64,
     pub clock: u32,
+    pub is_open: bool,
+    pub is_forged: bool,
 }
 
 // The number of the other end.
@@ -91,8 +99,8 @@ pub struct Started {
     pub answer: u8,
 }
 
-// Two ends in one state, nothing on its way between them.
-fn new_ends(link: Link, clock: u32) -> Ends {
+// Two ends in one state, nothing on its way between them: the first stretch, if they are fresh.
+fn new_ends(link: Link, clock: u32, is_open: bool) -> Ends {
     let e = End {
         link,
         first: 0,
@@ -106,20 +114,23 @@ fn new_ends(link: Link, clock: u32) -> Ends {
         chip: e,
         passed: 0,
         rounds: 0,
+        stretch: is_open as u64,
         clock,
+        is_open,
+        is_forged: false,
     }
 }
 
 // The ends before any start: nothing is set, and every call answers so.
 pub fn nobody() -> Ends {
-    new_ends(state::zero_state(), 0)
+    new_ends(state::zero_state(), 0, false)
 }
 
 // Both ends started with these settings: where a setting is out of range they are zeros, and answer so to every call.
 pub fn start(s: Settings, clock: u32, store: &Store) -> Started {
     let o = link::start(s, store);
     Started {
-        ends: new_ends(o.state, clock),
+        ends: new_ends(o.state, clock, o.answer == DONE),
         answer: o.answer,
     }
 }

@@ -5,11 +5,15 @@ use crate::Ends;
 use crate::SLOTS;
 use crate::Store;
 use crate::end_of;
+use crate::hearing;
+use crate::hearing::Hearing;
+use crate::hearing::NOTHING;
 use crate::line;
 use crate::line::FRAME;
 use crate::line::PLACES;
 use crate::other;
 use crate::slots_of;
+use crate::stretch;
 use crate::with_both;
 use base::answer::DONE;
 use base::buffer::part;
@@ -46,6 +50,7 @@ pub const ROUND: usize = 8;
 // Nothing; as every kind from here on.
 pub const OVER: usize = 9;
 
+// number: 0 where nothing is said of it.
 pub struct Move {
     pub kind: usize,
     pub end: usize,
@@ -61,8 +66,10 @@ pub fn new(kind: usize, end: usize, number: u32) -> Move {
 
 // delivered_at, delivered: where in the store the packet begins that was delivered, in the frame that arrived, and its length; 0 where
 // none was. sent_at, sent: the same of the frame that was sent. freed, dropped: how many packets wait no more because they were
-// acknowledged, and because of a reset. is_crowded: what was sent is lost, since 64 frames are on their way already.
+// acknowledged, and because of a reset. is_crowded: what was sent is lost, since 64 frames are on their way already. heard: what was heard in
+// the frame that was carried or damaged.
 pub struct Event {
+    pub heard: Hearing,
     pub delivered_at: usize,
     pub delivered: usize,
     pub sent_at: usize,
@@ -79,8 +86,9 @@ pub struct Moved {
 }
 
 // The ends after a move that is no call.
-fn without_event(p: Ends) -> Moved {
+fn without_event(p: Ends, heard: Hearing) -> Moved {
     let event = Event {
+        heard,
         delivered_at: 0,
         delivered: 0,
         sent_at: 0,
@@ -122,7 +130,7 @@ fn freed(waited: u8, took: u8, o: Outcome) -> u8 {
 }
 
 // A packet is delivered from byte 3 of a frame on, which lies behind its length.
-fn after(p: Ends, m: Move, o: Outcome, there: End, sent_at: usize) -> Moved {
+fn after(p: Ends, m: Move, o: Outcome, there: End, sent_at: usize, heard: Hearing) -> Moved {
     let here = end_of(p, m.end);
     let took = (m.kind == SUBMIT) & (o.answer == DONE);
     Moved {
@@ -133,6 +141,7 @@ fn after(p: Ends, m: Move, o: Outcome, there: End, sent_at: usize) -> Moved {
             after_sending(there, o.sent),
         ),
         event: Event {
+            heard,
             delivered_at: line::place_of(m.end, here.first, 0) + 5,
             delivered: o.delivered as usize,
             sent_at,
@@ -186,17 +195,24 @@ fn outcome_of(p: Ends, m: Move, store: &mut Store, frame: &mut Frame, packet: &[
 }
 
 // The ends after a call at one of them, with the frame that it sent on its way.
-fn sent_on(p: Ends, m: Move, o: Outcome, store: &mut Store, frame: &Frame) -> Moved {
+fn sent_on(
+    p: Ends,
+    m: Move,
+    o: Outcome,
+    store: &mut Store,
+    frame: &Frame,
+    heard: Hearing,
+) -> Moved {
     let there = end_of(p, other(m.end));
     let place = line::free_place(other(m.end), there);
     line::put(store, place, part(frame, 0, o.sent as usize));
-    after(p, m, o, there, place + 2)
+    after(p, m, o, there, place + 2, heard)
 }
 
-fn call(p: Ends, m: Move, store: &mut Store, packet: &[u8]) -> Moved {
+fn call(p: Ends, m: Move, store: &mut Store, packet: &[u8], heard: Hearing) -> Moved {
     let mut frame = [0u8; FRAME];
     let o = outcome_of(p, m, store, &mut frame, packet);
-    sent_on(p, m, o, store, &frame)
+    sent_on(p, m, o, store, &frame, heard)
 }
 
 // ---- every move
@@ -218,12 +234,18 @@ fn uncalled(p: Ends, m: Move, store: &mut Store, bytes: &[u8]) -> Ends {
     k
 }
 
+fn made(p: Ends, m: Move, store: &mut Store, bytes: &[u8], heard: Hearing) -> Moved {
+    match (m.kind <= RESYNCHRONISE) & ((m.kind != CARRY) | (heard.kind != NOTHING)) {
+        true => call(p, m, store, bytes, heard),
+        false => without_event(uncalled(p, m, store, bytes), heard),
+    }
+}
+
 // The ends after a move, and what came of it. bytes: what a submit is handed, or what a damaged frame becomes; no other move reads them.
 // Where no frame is there to be carried, nothing happens.
 pub fn make(p: Ends, m: Move, store: &mut Store, bytes: &[u8]) -> Moved {
-    let e = end_of(p, m.end);
-    match (m.kind <= RESYNCHRONISE) & ((m.kind != CARRY) | (0 < e.queue)) {
-        true => call(p, m, store, bytes),
-        false => without_event(uncalled(p, m, store, bytes)),
-    }
+    let heard = hearing::of_move(p, m, store, bytes);
+    let mut k = made(p, m, store, bytes, heard);
+    k.ends = stretch::after(k.ends, m, k.event.answer, heard.kind);
+    k
 }
