@@ -1,9 +1,13 @@
 // A move of the ends, told in a line.
+use crate::reason;
 use crate::words;
 use crate::words::say;
 use base::buffer::part;
+use ends::End;
 use ends::Ends;
 use ends::Store;
+use ends::hearing::Hearing;
+use ends::hearing::SUM;
 use ends::line;
 use ends::line::FRAME;
 use ends::moves;
@@ -66,7 +70,8 @@ fn tell_deed(store: &Store, p: Ends, m: Move, bytes: &[u8]) {
 
 // ---- after it
 
-fn tell_event(store: &Store, p: Ends, v: Event) {
+// e: the end before its call. count: how many bytes a submit was handed.
+fn tell_event(store: &Store, e: End, kind: usize, v: Event, count: usize) {
     match v.delivered == 0 {
         true => {}
         false => {
@@ -76,20 +81,20 @@ fn tell_event(store: &Store, p: Ends, v: Event) {
     }
     words::say_some(words::FREES, v.freed as u64);
     words::say_some(words::DROPS, v.dropped as u64);
-    words::answer(v.answer);
+    reason::tell(e.link, kind, v, count);
     match v.sent == 0 {
         true => {}
         false => {
             say(words::SENDS, 0, 0, 0);
-            heard::write_frame(p.desk.link.settings.format, part(store, v.sent_at, v.sent));
+            heard::write_frame(e.link.settings.format, part(store, v.sent_at, v.sent));
         }
     }
     words::say_if(v.is_crowded, words::CROWDED);
     say(words::END_LINE, 0, 0, 0);
 }
 
-// The promises speak of damage that step 1 refuses; here any will do.
-fn tell_damage(p: Ends, bytes: &[u8]) {
+// The promises speak of damage that step 1 refuses; here any will do, and other is told as a forgery.
+fn tell_damage(p: Ends, bytes: &[u8], made: Hearing) {
     match FRAME < bytes.len() {
         true => say(words::STAYS, 0, 0, 0),
         false => {
@@ -97,21 +102,22 @@ fn tell_damage(p: Ends, bytes: &[u8]) {
             heard::write_frame(p.desk.link.settings.format, bytes);
         }
     }
+    words::say_if(SUM < made.kind, words::FORGED);
     say(words::END_LINE, 0, 0, 0);
 }
 
-fn tell_outcome(store: &Store, p: Ends, m: Move, v: Event, bytes: &[u8]) {
+fn tell_outcome(store: &Store, e: End, p: Ends, m: Move, v: Event, bytes: &[u8]) {
     let kind = m.kind;
     match kind {
         LOSE => say(words::LOST, 0, 0, 0),
-        DAMAGE => tell_damage(p, bytes),
+        DAMAGE => tell_damage(p, bytes, v.heard),
         PASS => match m.number == 0 {
             true => {}
             false => say(words::LATER, p.clock as u64, m.number as u64, 0),
         },
         ROUND => say(words::ROUND, p.clock as u64, p.rounds, 0),
         _ => match kind <= RESYNCHRONISE {
-            true => tell_event(store, p, v),
+            true => tell_event(store, e, kind, v, bytes.len()),
             false => {}
         },
     }
@@ -121,8 +127,9 @@ fn tell_outcome(store: &Store, p: Ends, m: Move, v: Event, bytes: &[u8]) {
 
 // Makes a move, and tells it. bytes: what a submit is handed, or what a damaged frame becomes.
 pub fn play(p: Ends, m: Move, store: &mut Store, bytes: &[u8]) -> Moved {
+    let e = ends::end_of(p, m.end);
     tell_deed(store, p, m, bytes);
     let moved = moves::make(p, m, store, bytes);
-    tell_outcome(store, moved.ends, m, moved.event, bytes);
+    tell_outcome(store, e, moved.ends, m, moved.event, bytes);
     moved
 }

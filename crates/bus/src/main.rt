@@ -3,6 +3,7 @@ mod book;
 mod deeds;
 mod ending;
 mod order;
+mod reason;
 mod story;
 mod task;
 mod words;
