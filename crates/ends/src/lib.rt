@@ -4,11 +4,12 @@ pub mod hearing;
 pub mod line;
 pub mod moves;
 pub mod rounds;
-mod stretch;
+pub mod stretch;
 
 use base::answer::DONE;
 use state::Link;
 use state::Settings;
+use stretch::UNSET;
 ghost use Prim.Native.Nat.{_≤_};
 
 pub const DESK: usize = 0;
@@ -25,8 +26,7 @@ pub const STORE: usize = 136450;
 pub type Store = [u8; STORE];
 
 // first, queue: where in their ring the frames on their way to the end begin, and how many they are. taken, delivered: how many packets it
-// took and delivered since the present stretch began, or since the last one was over. dropped: how many of all that it took a reset has
-// dropped.
+// took and delivered since it was fresh. dropped: how many of all that it ever took a reset has dropped.
 pub struct End {
     pub link: Link,
     pub first: usize,
@@ -36,17 +36,16 @@ pub struct End {
     pub dropped: u64,
 }
 
-// passed, rounds: the milliseconds and timer rounds since both ends started. stretch: how many stretches have begun since then, 0 where the
-// ends have not started. is_open: the last of them is not over. is_forged: a frame was forged in it.
+// passed, rounds: the milliseconds and timer rounds since both ends started. stretches: how many have begun since then. phase: what is
+// promised, by the numbers of crate::stretch.
 pub struct Ends {
     pub desk: End,
     pub chip: End,
     pub passed: u64,
     pub rounds: u64,
-    pub stretch: u64,
+    pub stretches: u64,
+    pub phase: usize,
     pub clock: u32,
-    pub is_open: bool,
-    pub is_forged: bool,
 }
 
 // The number of the other end.
@@ -99,8 +98,8 @@ pub struct Started {
     pub answer: u8,
 }
 
-// Two ends in one state, nothing on its way between them: the first stretch, if they are fresh.
-fn new_ends(link: Link, clock: u32, is_open: bool) -> Ends {
+// Two ends in one state, nothing on its way between them. phase: FIRST if they are fresh, else UNSET.
+fn new_ends(link: Link, clock: u32, phase: usize) -> Ends {
     let e = End {
         link,
         first: 0,
@@ -114,23 +113,22 @@ fn new_ends(link: Link, clock: u32, is_open: bool) -> Ends {
         chip: e,
         passed: 0,
         rounds: 0,
-        stretch: is_open as u64,
+        stretches: 1,
+        phase,
         clock,
-        is_open,
-        is_forged: false,
     }
 }
 
 // The ends before any start: nothing is set, and every call answers so.
 pub fn nobody() -> Ends {
-    new_ends(state::zero_state(), 0, false)
+    new_ends(state::zero_state(), 0, UNSET)
 }
 
 // Both ends started with these settings: where a setting is out of range they are zeros, and answer so to every call.
 pub fn start(s: Settings, clock: u32, store: &Store) -> Started {
     let o = link::start(s, store);
     Started {
-        ends: new_ends(o.state, clock, o.answer == DONE),
+        ends: new_ends(o.state, clock, (o.answer == DONE) as usize),
         answer: o.answer,
     }
 }

@@ -6,8 +6,8 @@ use crate::SLOTS;
 use crate::Store;
 use crate::end_of;
 use crate::hearing;
-use crate::hearing::Hearing;
-use crate::hearing::NOTHING;
+use crate::hearing::OTHER;
+use crate::hearing::RESET;
 use crate::line;
 use crate::line::FRAME;
 use crate::line::PLACES;
@@ -50,7 +50,6 @@ pub const ROUND: usize = 8;
 // Nothing; as every kind from here on.
 pub const OVER: usize = 9;
 
-// number: 0 where nothing is said of it.
 pub struct Move {
     pub kind: usize,
     pub end: usize,
@@ -67,9 +66,9 @@ pub fn new(kind: usize, end: usize, number: u32) -> Move {
 // delivered_at, delivered: where in the store the packet begins that was delivered, in the frame that arrived, and its length; 0 where
 // none was. sent_at, sent: the same of the frame that was sent. freed, dropped: how many packets wait no more because they were
 // acknowledged, and because of a reset. is_crowded: what was sent is lost, since 64 frames are on their way already. heard: what was heard in
-// the frame that was carried or damaged.
+// the frame that was carried. is_fresh: the end has become fresh.
 pub struct Event {
-    pub heard: Hearing,
+    pub heard: usize,
     pub delivered_at: usize,
     pub delivered: usize,
     pub sent_at: usize,
@@ -78,6 +77,7 @@ pub struct Event {
     pub freed: u8,
     pub dropped: u8,
     pub is_crowded: bool,
+    pub is_fresh: bool,
 }
 
 pub struct Moved {
@@ -86,9 +86,9 @@ pub struct Moved {
 }
 
 // The ends after a move that is no call.
-fn without_event(p: Ends, heard: Hearing) -> Moved {
+fn without_event(p: Ends) -> Moved {
     let event = Event {
-        heard,
+        heard: OTHER,
         delivered_at: 0,
         delivered: 0,
         sent_at: 0,
@@ -97,20 +97,29 @@ fn without_event(p: Ends, heard: Hearing) -> Moved {
         freed: 0,
         dropped: 0,
         is_crowded: false,
+        is_fresh: false,
     };
     Moved { ends: p, event }
 }
 
-// The end at which the call was made. What is carried is on its way no more.
-fn after_call(e: End, kind: usize, o: Outcome, took: usize) -> End {
+// The end at which the call was made. What is carried is on its way no more. A call that makes it fresh takes and delivers nothing.
+fn after_call(e: End, kind: usize, o: Outcome, took: usize, is_fresh: bool) -> End {
     let mut k = match kind {
         CARRY => line::without_first(e),
         _ => e,
     };
     let state = o.state;
     k.link = state;
-    k.taken = std::num::wrapping_add_usize(e.taken, took);
-    k.delivered = std::num::wrapping_add_usize(e.delivered, (0 < o.delivered) as usize);
+    match is_fresh {
+        true => {
+            k.taken = 0;
+            k.delivered = 0;
+        }
+        false => {
+            k.taken = std::num::wrapping_add_usize(e.taken, took);
+            k.delivered = std::num::wrapping_add_usize(e.delivered, (0 < o.delivered) as usize);
+        }
+    }
     k.dropped = std::num::wrapping_add_u64(e.dropped, o.dropped as u64);
     k
 }
@@ -130,16 +139,18 @@ fn freed(waited: u8, took: u8, o: Outcome) -> u8 {
 }
 
 // A packet is delivered from byte 3 of a frame on, which lies behind its length.
-fn after(p: Ends, m: Move, o: Outcome, there: End, sent_at: usize, heard: Hearing) -> Moved {
+fn after(p: Ends, m: Move, o: Outcome, there: End, sent_at: usize, heard: usize) -> Moved {
     let here = end_of(p, m.end);
     let took = (m.kind == SUBMIT) & (o.answer == DONE);
+    let is_fresh = (heard == RESET) & (o.answer == DONE);
+    let k = with_both(
+        p,
+        m.end,
+        after_call(here, m.kind, o, took as usize, is_fresh),
+        after_sending(there, o.sent),
+    );
     Moved {
-        ends: with_both(
-            p,
-            m.end,
-            after_call(here, m.kind, o, took as usize),
-            after_sending(there, o.sent),
-        ),
+        ends: stretch::after(k, is_fresh),
         event: Event {
             heard,
             delivered_at: line::place_of(m.end, here.first, 0) + 5,
@@ -150,6 +161,7 @@ fn after(p: Ends, m: Move, o: Outcome, there: End, sent_at: usize, heard: Hearin
             freed: freed(here.link.waiting, took as u8, o),
             dropped: o.dropped,
             is_crowded: (PLACES <= there.queue) & (0 < o.sent),
+            is_fresh,
         },
     }
 }
@@ -195,22 +207,29 @@ fn outcome_of(p: Ends, m: Move, store: &mut Store, frame: &mut Frame, packet: &[
 }
 
 // The ends after a call at one of them, with the frame that it sent on its way.
-fn sent_on(
-    p: Ends,
-    m: Move,
-    o: Outcome,
-    store: &mut Store,
-    frame: &Frame,
-    heard: Hearing,
-) -> Moved {
+fn sent_on(p: Ends, m: Move, o: Outcome, store: &mut Store, frame: &Frame, heard: usize) -> Moved {
     let there = end_of(p, other(m.end));
     let place = line::free_place(other(m.end), there);
     line::put(store, place, part(frame, 0, o.sent as usize));
     after(p, m, o, there, place + 2, heard)
 }
 
-fn call(p: Ends, m: Move, store: &mut Store, packet: &[u8], heard: Hearing) -> Moved {
+// What the end hears; one that resynchronises becomes fresh by its own reset.
+fn heard_at(p: Ends, m: Move, store: &Store) -> usize {
+    let kind = m.kind;
+    match kind {
+        CARRY => hearing::of(
+            p.desk.link.settings.format,
+            line::frame_at(store, p, m.end, 0),
+        ),
+        RESYNCHRONISE => RESET,
+        _ => OTHER,
+    }
+}
+
+fn call(p: Ends, m: Move, store: &mut Store, packet: &[u8]) -> Moved {
     let mut frame = [0u8; FRAME];
+    let heard = heard_at(p, m, store);
     let o = outcome_of(p, m, store, &mut frame, packet);
     sent_on(p, m, o, store, &frame, heard)
 }
@@ -222,8 +241,11 @@ fn uncalled(p: Ends, m: Move, store: &mut Store, bytes: &[u8]) -> Ends {
     let mut k = p;
     let kind = m.kind;
     match kind {
-        LOSE => k = line::lose(p, m.end, store, m.number as usize),
-        DAMAGE => line::damage(p, m.end, store, m.number as usize, bytes),
+        LOSE => k = stretch::after(line::lose(p, m.end, store, m.number as usize), false),
+        DAMAGE => {
+            line::damage(p, m.end, store, m.number as usize, bytes);
+            k.phase = stretch::damaged_phase(p, bytes);
+        }
         PASS => {
             k.clock = std::num::wrapping_add_u32(p.clock, m.number);
             k.passed = std::num::wrapping_add_u64(p.passed, m.number as u64);
@@ -234,18 +256,12 @@ fn uncalled(p: Ends, m: Move, store: &mut Store, bytes: &[u8]) -> Ends {
     k
 }
 
-fn made(p: Ends, m: Move, store: &mut Store, bytes: &[u8], heard: Hearing) -> Moved {
-    match (m.kind <= RESYNCHRONISE) & ((m.kind != CARRY) | (heard.kind != NOTHING)) {
-        true => call(p, m, store, bytes, heard),
-        false => without_event(uncalled(p, m, store, bytes), heard),
-    }
-}
-
 // The ends after a move, and what came of it. bytes: what a submit is handed, or what a damaged frame becomes; no other move reads them.
 // Where no frame is there to be carried, nothing happens.
 pub fn make(p: Ends, m: Move, store: &mut Store, bytes: &[u8]) -> Moved {
-    let heard = hearing::of_move(p, m, store, bytes);
-    let mut k = made(p, m, store, bytes, heard);
-    k.ends = stretch::after(k.ends, m, k.event.answer, heard.kind);
-    k
+    let e = end_of(p, m.end);
+    match (m.kind <= RESYNCHRONISE) & ((m.kind != CARRY) | (0 < e.queue)) {
+        true => call(p, m, store, bytes),
+        false => without_event(uncalled(p, m, store, bytes)),
+    }
 }

@@ -2,62 +2,50 @@
 // way between them, and is over when an end becomes fresh again. From then on nothing is promised, until the next begins.
 use crate::End;
 use crate::Ends;
-use crate::hearing::RESET;
+use crate::hearing;
 use crate::hearing::SUM;
-use crate::moves::CARRY;
-use crate::moves::DAMAGE;
-use crate::moves::Move;
-use crate::moves::RESYNCHRONISE;
-use base::answer::DONE;
-use state::Link;
 
-// Number 0 is the first that a fresh end sends, and goes to slot 0: the length there tells whether it has sent any, freed or not.
-fn is_fresh(l: Link) -> bool {
-    let is_unused = (l.lengths[0] == 0) & (l.expected == 0) & (l.ackstart == 0);
-    is_unused & ((l.acking | l.nakmark | l.lost) == false)
+// The ends have not started.
+pub const UNSET: usize = 0;
+
+// The first stretch, or a later one.
+pub const FIRST: usize = 1;
+
+pub const LATER: usize = 2;
+
+// A stretch in which a frame became one that step 1 does not refuse: nothing is promised of it either.
+pub const FORGED: usize = 3;
+
+// A stretch is over, and no other has begun.
+pub const OUTSIDE: usize = 4;
+
+// Whether the end is fresh, and nothing is on its way to it. Nothing changes a fresh end but what it takes, what it delivers, and its NAK.
+fn is_ready(e: End) -> bool {
+    ((e.taken | e.delivered | e.queue) == 0) & (e.link.nakmark == false)
 }
 
-fn is_beginning(p: Ends) -> bool {
-    (p.desk.queue == 0) & (p.chip.queue == 0) & is_fresh(p.desk.link) & is_fresh(p.chip.link)
-}
-
-fn is_renewal(m: Move, answer: u8, heard: usize) -> bool {
-    let is_heard = (m.kind == CARRY) & (heard == RESET);
-    (answer == DONE) & (is_heard | (m.kind == RESYNCHRONISE))
-}
-
-fn uncounted(e: End) -> End {
-    let mut k = e;
-    k.taken = 0;
-    k.delivered = 0;
-    k
-}
-
-// What is taken and delivered is counted anew.
-fn with_stretch(p: Ends, stretch: u64, is_open: bool) -> Ends {
+// The ends after a move, by which one of them may have become fresh: a stretch is over, or begins.
+pub fn after(p: Ends, is_fresh: bool) -> Ends {
     let mut k = p;
-    k.desk = uncounted(p.desk);
-    k.chip = uncounted(p.chip);
-    k.stretch = stretch;
-    k.is_open = is_open;
-    k.is_forged = false;
-    k
-}
-
-fn closed(p: Ends, m: Move, answer: u8, heard: usize) -> Ends {
-    let mut k = p;
-    match p.is_open & is_renewal(m, answer, heard) {
-        true => k = with_stretch(p, p.stretch, false),
-        false => k.is_forged = p.is_forged | ((m.kind == DAMAGE) & (SUM < heard)),
+    match is_fresh {
+        true => k.phase = OUTSIDE,
+        false => {}
+    }
+    match (k.phase == OUTSIDE) & is_ready(p.desk) & is_ready(p.chip) {
+        true => {
+            k.phase = LATER;
+            k.stretches = std::num::wrapping_add_u64(p.stretches, 1);
+        }
+        false => {}
     }
     k
 }
 
-// The ends after a move, in the stretch that is then theirs: what the move's call answered, and what was heard in its frame.
-pub fn after(p: Ends, m: Move, answer: u8, heard: usize) -> Ends {
-    let k = closed(p, m, answer, heard);
-    match (k.is_open == false) & (0 < k.stretch) & is_beginning(k) {
-        true => with_stretch(k, std::num::wrapping_add_u64(k.stretch, 1), true),
-        false => k,
+// The phase after a frame has become these bytes.
+pub fn damaged_phase(p: Ends, bytes: &[u8]) -> usize {
+    let heard = hearing::of(p.desk.link.settings.format, bytes);
+    match (SUM < heard) & (p.phase < FORGED) {
+        true => FORGED,
+        false => p.phase,
     }
 }
