@@ -6,8 +6,7 @@ use base::buffer::part;
 use ends::End;
 use ends::Ends;
 use ends::Store;
-use ends::hearing::Hearing;
-use ends::hearing::SUM;
+use ends::hearing;
 use ends::line;
 use ends::line::FRAME;
 use ends::moves;
@@ -71,7 +70,7 @@ fn tell_deed(store: &Store, p: Ends, m: Move, bytes: &[u8]) {
 // ---- after it
 
 // e: the end before its call. count: how many bytes a submit was handed.
-fn tell_event(store: &Store, e: End, kind: usize, v: Event, count: usize) {
+fn tell_event(store: &Store, e: End, v: Event, count: usize) {
     match v.delivered == 0 {
         true => {}
         false => {
@@ -81,7 +80,7 @@ fn tell_event(store: &Store, e: End, kind: usize, v: Event, count: usize) {
     }
     words::say_some(words::FREES, v.freed as u64);
     words::say_some(words::DROPS, v.dropped as u64);
-    reason::tell(e.link, kind, v, count);
+    reason::tell(e.link, v, count);
     match v.sent == 0 {
         true => {}
         false => {
@@ -94,15 +93,16 @@ fn tell_event(store: &Store, e: End, kind: usize, v: Event, count: usize) {
 }
 
 // The promises speak of damage that step 1 refuses; here any will do, and other is told as a forgery.
-fn tell_damage(p: Ends, bytes: &[u8], made: Hearing) {
+fn tell_damage(p: Ends, bytes: &[u8]) {
+    let format = p.desk.link.settings.format;
     match FRAME < bytes.len() {
         true => say(words::STAYS, 0, 0, 0),
         false => {
             say(words::DAMAGED, 0, 0, 0);
-            heard::write_frame(p.desk.link.settings.format, bytes);
+            heard::write_frame(format, bytes);
         }
     }
-    words::say_if(SUM < made.kind, words::FORGED);
+    words::say_if(hearing::SUM < hearing::of(format, bytes), words::FORGED);
     say(words::END_LINE, 0, 0, 0);
 }
 
@@ -110,14 +110,14 @@ fn tell_outcome(store: &Store, e: End, p: Ends, m: Move, v: Event, bytes: &[u8])
     let kind = m.kind;
     match kind {
         LOSE => say(words::LOST, 0, 0, 0),
-        DAMAGE => tell_damage(p, bytes, v.heard),
+        DAMAGE => tell_damage(p, bytes),
         PASS => match m.number == 0 {
             true => {}
             false => say(words::LATER, p.clock as u64, m.number as u64, 0),
         },
         ROUND => say(words::ROUND, p.clock as u64, p.rounds, 0),
         _ => match kind <= RESYNCHRONISE {
-            true => tell_event(store, e, kind, v, bytes.len()),
+            true => tell_event(store, e, v, bytes.len()),
             false => {}
         },
     }

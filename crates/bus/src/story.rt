@@ -7,7 +7,6 @@ use crate::reason;
 use crate::task;
 use crate::words;
 use crate::words::say;
-use base::answer::DONE;
 use base::buffer::part;
 use ends::CHIP;
 use ends::DESK;
@@ -40,16 +39,12 @@ fn settings_of(v: Values) -> Settings {
 fn tell_start(s: Settings, clock: u32, answer: u8) {
     say(words::CLOCK, clock as u64, 0, 0);
     say(
-        match answer {
-            DONE => words::START,
-            _ => words::NO_START,
-        },
+        std::num::wrapping_add_usize(words::START, answer as usize),
         s.format.d as u64,
         s.window as u64,
         s.transtimeout as u64,
     );
     say(words::REPEATS, s.repeats as u64, s.acktimeout as u64, 0);
-    words::say_some(words::REFUSED, answer as u64);
     reason::tell_ranges(s);
     say(words::END_LINE, 0, 0, 0);
 }

@@ -131,31 +131,13 @@ fn next(p: Ends, t: Task) -> Task {
 
 // ---- what rounds came to
 
-// Nothing waits. That all is through is told of a stretch, and of none in which a frame was forged.
-fn settled_place(p: Ends) -> usize {
-    let is_all = (p.chip.delivered == p.desk.taken) & (p.desk.delivered == p.chip.taken);
-    let is_forged = p.is_forged;
-    match is_forged {
-        true => words::FORGED_THROUGH,
-        false => match is_all & p.is_open {
-            true => match p.stretch == 1 {
-                true => words::ALL_THROUGH,
-                false => words::STRETCH_THROUGH,
-            },
-            false => words::NONE_WAITS,
-        },
-    }
-}
-
+// In a stretch that has its promises all is through where nothing waits.
 fn place_of(p: Ends) -> usize {
-    match p.stretch == 0 {
-        true => words::NO_PAIR,
-        false => match rounds::is_lost(p) {
-            true => words::A_LINK_LOST,
-            false => match rounds::is_settled(p) {
-                true => settled_place(p),
-                false => words::NOT_THROUGH,
-            },
+    match rounds::is_lost(p) {
+        true => words::A_LINK_LOST,
+        false => match rounds::is_settled(p) {
+            true => std::num::wrapping_add_usize(words::SETTLED, p.phase),
+            false => words::NOT_THROUGH,
         },
     }
 }
@@ -198,7 +180,7 @@ pub fn make_all(p: Ends, task: Task, store: &mut Store, book: &mut Book, bytes: 
         let moved = deeds::play(k, t.last, store, bytes);
         let e = ends::end_of(k, t.last.end);
         book::keep(book, e, t.last, moved.event, store, bytes);
-        ending::tell_if_over(book, k, moved.ends);
+        ending::tell_turn(book, k, moved.ends);
         k = moved.ends;
         left = left_after(t.last.kind, left);
     }

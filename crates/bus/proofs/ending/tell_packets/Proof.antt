@@ -6,10 +6,10 @@ use Rattle.bus.proofs.ending.tell_packets.Statement.{statement}
 use Rattle.bus.proofs.ending.tell_packets.Tie as tie
 
 abbrev Inv-loop : tie.InvT-loop
-Inv-loop book end got taken is-marked n₀ n = Unit {0}
+Inv-loop book shelf count n₀ n = Unit {0}
 
 abbrev μ-loop : tie.MeasureT-loop
-μ-loop book end got taken is-marked n₀ n = got - n
+μ-loop book shelf count n₀ n = count - n
 
 pub tell-packets-spec : {M : Type 1} → statement M
-tell-packets-spec = tie.close (tie.spec Inv-loop μ-loop (λ c κs. search needs) (λ c κs. search needs) (λ c. search needs) (λ c κs. search needs) (λ c κs. search needs) (λ c κs. search needs) (λ c κs. search needs) (λ c κs. search needs) (λ c κs. search needs) (λ c. search needs) (λ c. search needs) (λ c. search needs) (λ c. search needs))
+tell-packets-spec = tie.close (tie.spec Inv-loop μ-loop (λ c. search needs) (λ c κs. search needs) (λ c κs. search needs) (λ c κs. search needs) (λ c κs. search needs) (λ c. search needs) (λ c. search needs) (λ c. search needs) (λ c. search needs))
