@@ -80,7 +80,12 @@ fn tell_event(store: &Store, e: End, v: Event, count: usize) {
     }
     words::say_some(words::FREES, v.freed as u64);
     words::say_some(words::DROPS, v.dropped as u64);
-    reason::tell(e.link, v, count);
+    say(
+        reason::place_of(v.answer, v.heard, e.link.lost),
+        v.answer as u64,
+        count as u64,
+        state::limit(e.link.settings) as u64,
+    );
     match v.sent == 0 {
         true => {}
         false => {

@@ -42,7 +42,6 @@ fn tell_link(l: Link) {
     say_if(l.acking, words::OWES);
     say_if(l.nakmark, words::COMPLAINED);
     say_if(l.lost, words::LINK_LOST);
-    say_if(l.settings.format.d == 0, words::NOT_STARTED);
     say(words::END_LINE, 0, 0, 0);
 }
 
@@ -118,9 +117,10 @@ pub fn tell_turn(book: &Book, before: Ends, after: Ends) {
 
 // ---- the end
 
-fn tell_waiting(n: usize, l: Link) {
+fn tell_waiting(n: usize, l: Link, dropped: u64) {
     say(n, l.waiting as u64, 0, 0);
     say_if(l.lost, words::IS_LOST);
+    words::say_some(words::DROPPED, dropped);
 }
 
 // Tells who got what, what is left, and how long it took; nothing where there is no pair.
@@ -130,11 +130,9 @@ pub fn tell(book: &Book, p: Ends) {
         false => {
             say(words::IN_THE_END, 0, 0, 0);
             tell_part(book, p);
-            tell_waiting(words::AT_DESK, p.desk.link);
-            tell_waiting(words::AT_CHIP, p.chip.link);
+            tell_waiting(words::AT_DESK, p.desk.link, p.desk.dropped);
+            tell_waiting(words::AT_CHIP, p.chip.link, p.chip.dropped);
             say(words::END_LINE, 0, 0, 0);
-            words::say_some(words::DESK_DROPPED, p.desk.dropped);
-            words::say_some(words::CHIP_DROPPED, p.chip.dropped);
             say(words::TIME, p.rounds, p.passed, 0);
         }
     }

@@ -2,35 +2,22 @@
 use crate::words;
 use crate::words::say;
 use base::answer;
-use ends::moves::Event;
-use state::Link;
 use state::Settings;
 use text::least;
 
 // ---- a call
 
-// A frame that is refused has its number by what was heard in it.
-fn place_of(refused: u8, heard: usize, was_lost: bool) -> usize {
-    match refused {
+// The phrase for what a call answers; nothing where it does not refuse. A frame that is refused has it by what was heard in it.
+pub fn place_of(answer: u8, heard: usize, was_lost: bool) -> usize {
+    match answer {
         answer::LINK_LOST => match was_lost {
             true => words::LOST_BEFORE,
             false => words::LOST_NOW,
         },
         answer::BAD_FRAME => std::num::wrapping_add_usize(words::REFUSED, heard),
-        answer::UNUSED_CODE => std::num::wrapping_add_usize(words::REFUSED, heard),
         answer::CONTROL_SIZE => std::num::wrapping_add_usize(words::REFUSED, heard),
-        _ => words::ANSWERS + least(refused as usize, words::OTHERS),
+        _ => words::ANSWERS + least(answer as usize, words::OTHERS),
     }
-}
-
-// Tells what a call answers, if it refuses. l: the end before it. count: how many bytes a submit was handed.
-pub fn tell(l: Link, v: Event, count: usize) {
-    say(
-        place_of(v.answer, v.heard, l.lost),
-        v.answer as u64,
-        count as u64,
-        state::limit(l.settings) as u64,
-    );
 }
 
 // ---- a start

@@ -7,7 +7,7 @@ use text::lay;
 // Writes a phrase by its place, and the numbers in it; none behind the last.
 pub fn say(n: usize, a: u64, b: u64, c: u64) {
     lay::write_chosen(
-        b"the desk|the chip| submits | hears | looks at the clock| acknowledges now| resynchronises|[%] |, delivers |, frees %|, drops %, which may have arrived|, sends |, which is lost: too many frames are on their way| from | is lost\n| stays: no frame has over 1024 bytes| is damaged: now |, forged: its checksum is right|no such frame is on its way from | has taken 64 packets since it was fresh, and a story keeps no more|[%] % ms later\n|[%] -- round %\n|[%] -- a link is lost; timer rounds: %, milliseconds: %\n|[%] -- not all is through; timer rounds: %, milliseconds: %\n|[%] -- no pair has started\n|[%] -- all is through; timer rounds: %, milliseconds: %\n|[%] -- all of this stretch is through; timer rounds: %, milliseconds: %\n|[%] -- nothing waits any more, but a frame was forged; timer rounds: %, milliseconds: %\n|[%] -- nothing waits any more; timer rounds: %, milliseconds: %\n|bad line %\n|the desk and the chip start: D %, window %, a packet again after % ms|the desk and the chip answer 1 and do NOT start: D %, window %, a packet again after % ms|the desk and the chip answer 2 and do NOT start: D %, window %, a packet again after % ms|, at most % times, an acknowledgement after % ms| (D is %, not 16 to 1024)| (WIN is %, not 1 to 2)| (TRANS is %, not 2 to 1000)| (ACK is %, not 1 up to less than TRANS, %)| (REP is %, not 1 to 4)|: sends number % next, expects %, waiting packets: %|, owes an acknowledgement|, has sent its nak|, link lost|, not started|  on its way there: |-- stretch % is over: nothing is promised until the next begins\n|-- stretch % begins: both ends are fresh, and nothing is on its way\n|||in stretch %:\n|in stretch %, of which nothing is promised, since a frame was forged:\n|behind stretch %, where nothing is promised, since each end was fresh:\n| got % of % packets taken at | got % packets, but these are NOT the first of the % taken at | got % packets, and % were taken at |, each once and in order|  |-- in the end\n|waiting at the desk: %|, at the chip: %| (link lost)|dropped at the desk by a reset: %, which may have arrived\n|dropped at the chip by a reset: %, which may have arrived\n|timer rounds: %, milliseconds: %\n|\n||, answers % (no pair has started: D is 0, not 16 to 1024)|, answers %|, answers % (link lost before)|, answers % (a packet of % bytes, not 1 to %)|, answers % (window full)|, answers %|, answers %|, answers %|, answers % (not the expected number)|, answers %|, answers % (link lost now)|, answers % (size: not 5 to D bytes)|, answers % (checksum)|, answers % (unused code)|, answers % (a control frame of over 5 bytes)|, answers % (a control frame whose LEN is not 0)|, answers % (a data frame whose LEN is not its size less 5)|, answers % (a data frame of 5 bytes, without a packet)",
+        b"the desk|the chip| submits | hears | looks at the clock| acknowledges now| resynchronises|[%] |, delivers |, frees %|, drops %, which may have arrived|, sends |, which is lost: too many frames are on their way| from | is lost\n| stays: no frame has over 1024 bytes| is damaged: now |, forged: its checksum is right|no such frame is on its way from | has taken 64 packets since it was fresh, and a story keeps no more|[%] % ms later\n|[%] -- round %\n|[%] -- a link is lost; timer rounds: %, milliseconds: %\n|[%] -- not all is through; timer rounds: %, milliseconds: %\n|[%] -- no pair has started\n|[%] -- all is through; timer rounds: %, milliseconds: %\n|[%] -- all of this stretch is through; timer rounds: %, milliseconds: %\n|[%] -- nothing waits any more, but a frame was forged: what arrived need not be what was taken; timer rounds: %, milliseconds: %\n|[%] -- nothing waits any more; timer rounds: %, milliseconds: %\n|bad line %\n|the desk and the chip start: D %, window %, a packet again after % ms|the desk and the chip answer 1 and do NOT start: D %, window %, a packet again after % ms|the desk and the chip answer 2 and do NOT start: D %, window %, a packet again after % ms|, at most % times, an acknowledgement after % ms| (D is %, not 16 to 1024)| (WIN is %, not 1 to 2)| (TRANS is %, not 2 to 1000)| (ACK is %, not 1 to less than TRANS, which is %)| (REP is %, not 1 to 4)|: sends number % next, expects %, waiting packets: %|, owes an acknowledgement|, has sent its nak|, link lost|  on its way there: |-- stretch % is over: nothing is promised until the next begins\n|-- stretch % begins: both ends are fresh, and nothing is on its way\n|||in stretch %:\n|in stretch %, of which nothing is promised, since a frame was forged:\n|behind stretch %, where nothing is promised; counted since each end was last fresh:\n| got % of % packets taken at | got % packets; one by one, these are NOT the % packets taken at | got % packets, and % were taken at |, each once and in order|  |-- in the end\n|waiting at the desk: %|, at the chip: %| (link lost)| (dropped by a reset: %, which may have arrived)|timer rounds: %, milliseconds: %\n|\n||, answers % (no pair has started: D is 0, not 16 to 1024)|, answers %|, answers % (link lost before)|, answers % (a packet of % bytes, not 1 to %)|, answers % (window full)||, answers % (unused code)||, answers % (not the expected number)|, answers %|, answers % (link lost now)|, answers % (size: not 5 to D bytes)|, answers % (checksum)|, answers % (a control frame of over 5 bytes)|, answers % (a control frame whose LEN is not 0)|, answers % (a data frame whose LEN is not its size less 5)|, answers % (a data frame of 5 bytes, without a packet)",
         n,
         a,
         b,
@@ -87,56 +87,52 @@ pub const COMPLAINED: usize = 41;
 
 pub const LINK_LOST: usize = 42;
 
-pub const NOT_STARTED: usize = 43;
-
-pub const ON_ITS_WAY: usize = 44;
+pub const ON_ITS_WAY: usize = 43;
 
 // Stretches. What each end got, by the phase.
-pub const OVER: usize = 45;
+pub const OVER: usize = 44;
 
-pub const BEGINS: usize = 46;
+pub const BEGINS: usize = 45;
 
-pub const PART: usize = 47;
+pub const PART: usize = 46;
 
-pub const GOT: usize = 52;
+pub const GOT: usize = 51;
 
-pub const GOT_OTHERS: usize = 53;
+pub const GOT_OTHERS: usize = 52;
 
-pub const GOT_OUTSIDE: usize = 54;
+pub const GOT_OUTSIDE: usize = 53;
 
-pub const IN_ORDER: usize = 55;
+pub const IN_ORDER: usize = 54;
 
-pub const INDENT: usize = 56;
+pub const INDENT: usize = 55;
 
 // The ending.
-pub const IN_THE_END: usize = 57;
+pub const IN_THE_END: usize = 56;
 
-pub const AT_DESK: usize = 58;
+pub const AT_DESK: usize = 57;
 
-pub const AT_CHIP: usize = 59;
+pub const AT_CHIP: usize = 58;
 
-pub const IS_LOST: usize = 60;
+pub const IS_LOST: usize = 59;
 
-pub const DESK_DROPPED: usize = 61;
+pub const DROPPED: usize = 60;
 
-pub const CHIP_DROPPED: usize = 62;
+pub const TIME: usize = 61;
 
-pub const TIME: usize = 63;
-
-pub const END_LINE: usize = 64;
+pub const END_LINE: usize = 62;
 
 // What an answer is told as: 0 to 9 in the order of their numbers, and behind them all others.
-pub const ANSWERS: usize = 65;
+pub const ANSWERS: usize = 63;
 
-pub const LOST_BEFORE: usize = 68;
+pub const LOST_BEFORE: usize = 66;
 
-pub const LOST_NOW: usize = 76;
+pub const LOST_NOW: usize = 74;
 
 // Why a frame is refused: by what is heard in it.
-pub const REFUSED: usize = 77;
+pub const REFUSED: usize = 75;
 
 // No words.
-pub const NOTHING: usize = 84;
+pub const NOTHING: usize = 81;
 
 // The first answer that has no words of its own.
 pub const OTHERS: usize = answer::CHAIN_FAULT as usize;

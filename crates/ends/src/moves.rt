@@ -66,7 +66,7 @@ pub fn new(kind: usize, end: usize, number: u32) -> Move {
 // delivered_at, delivered: where in the store the packet begins that was delivered, in the frame that arrived, and its length; 0 where
 // none was. sent_at, sent: the same of the frame that was sent. freed, dropped: how many packets wait no more because they were
 // acknowledged, and because of a reset. is_crowded: what was sent is lost, since 64 frames are on their way already. heard: what was heard in
-// the frame that was carried. is_fresh: the end has become fresh.
+// the frame that was carried.
 pub struct Event {
     pub heard: usize,
     pub delivered_at: usize,
@@ -77,7 +77,6 @@ pub struct Event {
     pub freed: u8,
     pub dropped: u8,
     pub is_crowded: bool,
-    pub is_fresh: bool,
 }
 
 pub struct Moved {
@@ -97,7 +96,6 @@ fn without_event(p: Ends) -> Moved {
         freed: 0,
         dropped: 0,
         is_crowded: false,
-        is_fresh: false,
     };
     Moved { ends: p, event }
 }
@@ -161,7 +159,6 @@ fn after(p: Ends, m: Move, o: Outcome, there: End, sent_at: usize, heard: usize)
             freed: freed(here.link.waiting, took as u8, o),
             dropped: o.dropped,
             is_crowded: (PLACES <= there.queue) & (0 < o.sent),
-            is_fresh,
         },
     }
 }
