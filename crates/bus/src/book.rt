@@ -11,29 +11,26 @@ use ends::moves::CARRY;
 use ends::moves::Event;
 use ends::moves::Move;
 use ends::moves::SUBMIT;
+use text::least;
 ghost use Prim.Native.Nat.{_≤_};
 
-// Four shelves of 64 places: what the desk took, what the chip took, what the desk delivered, what the chip delivered.
+// Four shelves of 64 places and one for what a full shelf has no place for: what the desk took, what the chip took, what the desk delivered, what the chip delivered.
 const SHELVES: usize = 4;
 
 pub const TAKEN: usize = 0;
 
 pub const DELIVERED: usize = 2;
 
-// The place of what a full shelf has no place for.
-const SPARE: usize = 262656;
+const SHELF: usize = PLACES + 1;
 
-pub const BOOK: usize = 263682;
+pub const BOOK: usize = 266760;
 
 pub type Book = [u8; BOOK];
 
 fn place_of(shelf: usize, n: usize) -> usize
-    ensures { λ r. ⌜ r ≤ 262656 ⌝ }
+    ensures { λ r. ⌜ r ≤ 265734 ⌝ }
 {
-    match n < PLACES {
-        true => (shelf % SHELVES * PLACES + n % PLACES) * PLACE,
-        false => SPARE,
-    }
+    (shelf % SHELVES * SHELF + least(n, PLACES)) * PLACE
 }
 
 // Packet n of the shelf.

@@ -3,7 +3,6 @@ use crate::reason;
 use crate::words;
 use crate::words::say;
 use base::buffer::part;
-use ends::End;
 use ends::Ends;
 use ends::Store;
 use ends::hearing;
@@ -69,8 +68,8 @@ fn tell_deed(store: &Store, p: Ends, m: Move, bytes: &[u8]) {
 
 // ---- after it
 
-// e: the end before its call. count: how many bytes a submit was handed.
-fn tell_event(store: &Store, e: End, v: Event, count: usize) {
+// count: how many bytes a submit was handed.
+fn tell_event(store: &Store, p: Ends, v: Event, count: usize) {
     match v.delivered == 0 {
         true => {}
         false => {
@@ -81,16 +80,16 @@ fn tell_event(store: &Store, e: End, v: Event, count: usize) {
     words::say_some(words::FREES, v.freed as u64);
     words::say_some(words::DROPS, v.dropped as u64);
     say(
-        reason::place_of(v.answer, v.heard, e.link.lost),
+        reason::place_of(v.answer, v.heard, v.was_lost),
         v.answer as u64,
         count as u64,
-        state::limit(e.link.settings) as u64,
+        state::limit(p.desk.link.settings) as u64,
     );
     match v.sent == 0 {
         true => {}
         false => {
             say(words::SENDS, 0, 0, 0);
-            heard::write_frame(e.link.settings.format, part(store, v.sent_at, v.sent));
+            heard::write_frame(p.desk.link.settings.format, part(store, v.sent_at, v.sent));
         }
     }
     words::say_if(v.is_crowded, words::CROWDED);
@@ -111,7 +110,7 @@ fn tell_damage(p: Ends, bytes: &[u8]) {
     say(words::END_LINE, 0, 0, 0);
 }
 
-fn tell_outcome(store: &Store, e: End, p: Ends, m: Move, v: Event, bytes: &[u8]) {
+fn tell_outcome(store: &Store, p: Ends, m: Move, v: Event, bytes: &[u8]) {
     let kind = m.kind;
     match kind {
         LOSE => say(words::LOST, 0, 0, 0),
@@ -122,7 +121,7 @@ fn tell_outcome(store: &Store, e: End, p: Ends, m: Move, v: Event, bytes: &[u8])
         },
         ROUND => say(words::ROUND, p.clock as u64, p.rounds, 0),
         _ => match kind <= RESYNCHRONISE {
-            true => tell_event(store, e, v, bytes.len()),
+            true => tell_event(store, p, v, bytes.len()),
             false => {}
         },
     }
@@ -132,9 +131,8 @@ fn tell_outcome(store: &Store, e: End, p: Ends, m: Move, v: Event, bytes: &[u8])
 
 // Makes a move, and tells it. bytes: what a submit is handed, or what a damaged frame becomes.
 pub fn play(p: Ends, m: Move, store: &mut Store, bytes: &[u8]) -> Moved {
-    let e = ends::end_of(p, m.end);
     tell_deed(store, p, m, bytes);
     let moved = moves::make(p, m, store, bytes);
-    tell_outcome(store, e, moved.ends, m, moved.event, bytes);
+    tell_outcome(store, moved.ends, m, moved.event, bytes);
     moved
 }

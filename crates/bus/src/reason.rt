@@ -22,23 +22,18 @@ pub fn place_of(answer: u8, heard: usize, was_lost: bool) -> usize {
 
 // ---- a start
 
-fn tell_outside(n: usize, x: u64, from: u64, past: u64) {
+fn tell_outside(n: usize, x: u16, from: u16, past: u16) {
     match (from <= x) & (x < past) {
         true => {}
-        false => say(n, x, past, 0),
+        false => say(n, x as u64, past as u64, 0),
     }
 }
 
 // Tells each setting that is out of its range, and the range.
 pub fn tell_ranges(s: Settings) {
-    tell_outside(words::D_RANGE, s.format.d as u64, 16, 1025);
-    tell_outside(words::WIN_RANGE, s.window as u64, 1, 3);
-    tell_outside(words::TRANS_RANGE, s.transtimeout as u64, 2, 1001);
-    tell_outside(
-        words::ACK_RANGE,
-        s.acktimeout as u64,
-        1,
-        s.transtimeout as u64,
-    );
-    tell_outside(words::REP_RANGE, s.repeats as u64, 1, 5);
+    tell_outside(words::D_RANGE, s.format.d, 16, 1025);
+    tell_outside(words::WIN_RANGE, s.window as u16, 1, 3);
+    tell_outside(words::TRANS_RANGE, s.transtimeout, 2, 1001);
+    tell_outside(words::ACK_RANGE, s.acktimeout, 1, s.transtimeout);
+    tell_outside(words::REP_RANGE, s.repeats as u16, 1, 5);
 }

@@ -7,14 +7,11 @@ pub const SIZE: usize = 0;
 
 pub const SUM: usize = 1;
 
-// Step 3 does, by its size or else by its LEN alone; step 4, by its LEN or since it has no more than what every frame has.
+// Step 3 does, by its size. One more: by its LEN alone, where it has no more than what every frame has.
 pub const CONTROL_SIZE: usize = 2;
 
-pub const CONTROL_LEN: usize = 3;
-
+// Step 4 does, by its LEN. One more: where it has no more than what every frame has, and so no packet.
 pub const LENGTH: usize = 4;
-
-pub const EMPTY: usize = 5;
 
 // Neither does.
 pub const RESET: usize = 6;
@@ -26,18 +23,12 @@ const BARE: usize = 5;
 
 // What an end with that format hears.
 pub fn of(format: Format, frame: &[u8]) -> usize {
-    let is_bare = frame.len() == BARE;
+    let bare = (frame.len() == BARE) as usize;
     match frame::hear(format, frame) {
         Heard::Size => SIZE,
         Heard::Sum => SUM,
-        Heard::ControlSize => match is_bare {
-            true => CONTROL_LEN,
-            false => CONTROL_SIZE,
-        },
-        Heard::Length => match is_bare {
-            true => EMPTY,
-            false => LENGTH,
-        },
+        Heard::ControlSize => std::num::wrapping_add_usize(CONTROL_SIZE, bare),
+        Heard::Length => std::num::wrapping_add_usize(LENGTH, bare),
         Heard::Reset => RESET,
         _ => OTHER,
     }

@@ -66,7 +66,7 @@ pub fn new(kind: usize, end: usize, number: u32) -> Move {
 // delivered_at, delivered: where in the store the packet begins that was delivered, in the frame that arrived, and its length; 0 where
 // none was. sent_at, sent: the same of the frame that was sent. freed, dropped: how many packets wait no more because they were
 // acknowledged, and because of a reset. is_crowded: what was sent is lost, since 64 frames are on their way already. heard: what was heard in
-// the frame that was carried.
+// the frame that was carried. was_lost: the link was lost before.
 pub struct Event {
     pub heard: usize,
     pub delivered_at: usize,
@@ -77,6 +77,7 @@ pub struct Event {
     pub freed: u8,
     pub dropped: u8,
     pub is_crowded: bool,
+    pub was_lost: bool,
 }
 
 pub struct Moved {
@@ -96,6 +97,7 @@ fn without_event(p: Ends) -> Moved {
         freed: 0,
         dropped: 0,
         is_crowded: false,
+        was_lost: false,
     };
     Moved { ends: p, event }
 }
@@ -159,6 +161,7 @@ fn after(p: Ends, m: Move, o: Outcome, there: End, sent_at: usize, heard: usize)
             freed: freed(here.link.waiting, took as u8, o),
             dropped: o.dropped,
             is_crowded: (PLACES <= there.queue) & (0 < o.sent),
+            was_lost: here.link.lost,
         },
     }
 }

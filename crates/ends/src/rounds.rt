@@ -77,7 +77,7 @@ pub fn is_lost(p: Ends) -> bool {
 
 // Whether nothing is on its way, nothing waits, and nothing is owed.
 pub fn is_settled(p: Ends) -> bool {
-    ((p.desk.queue == 0) & (p.chip.queue == 0))
-        & ((p.desk.link.waiting == 0) & (p.chip.link.waiting == 0))
+    ((p.desk.queue | p.chip.queue) == 0)
+        & ((p.desk.link.waiting | p.chip.link.waiting) == 0)
         & ((p.desk.link.acking | p.chip.link.acking) == false)
 }
