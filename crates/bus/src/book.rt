@@ -14,7 +14,8 @@ use ends::moves::SUBMIT;
 use text::least;
 ghost use Prim.Native.Nat.{_≤_};
 
-// Four shelves of 64 places and one for what a full shelf has no place for: what the desk took, what the chip took, what the desk delivered, what the chip delivered.
+// Four shelves: what the desk took, what the chip took, what the desk delivered, what the chip delivered. Each has 64 places, and one for
+// what comes when these are full.
 const SHELVES: usize = 4;
 
 pub const TAKEN: usize = 0;

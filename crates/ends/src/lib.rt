@@ -113,7 +113,7 @@ fn new_ends(link: Link, clock: u32, phase: usize) -> Ends {
         chip: e,
         passed: 0,
         rounds: 0,
-        stretches: 1,
+        stretches: phase as u64,
         phase,
         clock,
     }
