@@ -79,10 +79,11 @@ fn place_of(phase: usize, is_same: bool) -> usize {
 // What the end got of what the other took.
 fn tell_got(book: &Book, phase: usize, end: usize, got: usize, taken: usize) {
     let shelf = DELIVERED + end % 2;
-    let is_same = book::is_same(book, shelf, TAKEN + ends::other(end) % 2, got) & (got <= taken);
+    let sender = ends::other(end);
+    let is_same = book::is_same(book, shelf, TAKEN + sender % 2, got) & (got <= taken);
     words::name(end);
     say(place_of(phase, is_same), got as u64, taken as u64, 0);
-    words::name(ends::other(end));
+    words::name(sender);
     say_if(is_same & (0 < got) & (phase < FORGED), words::IN_ORDER);
     say(words::END_LINE, 0, 0, 0);
     tell_packets(book, shelf, least(got, PLACES));

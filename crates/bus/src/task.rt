@@ -64,12 +64,13 @@ fn times(n: u64) -> u64 {
 fn left_of(p: Ends, verb: usize, first: u64, second: u64) -> u64 {
     let end = first as usize;
     let e = ends::end_of(p, end);
+    let count = times(second);
     match verb {
         order::SUBMIT => match e.taken < PLACES {
             true => 1,
             false => none(p.clock, words::NOTHING, end, words::FULL),
         },
-        order::CARRY => if_there(p, end, times(second), times(second)),
+        order::CARRY => if_there(p, end, count, count),
         order::LOSE => if_there(p, end, second, 1),
         order::DAMAGE => if_there(p, end, second, 1),
         order::ROUND => times(first),
@@ -84,10 +85,12 @@ fn left_of(p: Ends, verb: usize, first: u64, second: u64) -> u64 {
 // that moves nothing the number is none of a move.
 fn move_of(clock: u32, verb: usize, first: u32, second: u32) -> Move {
     let end = first as usize;
+    let to = other(end);
+    let number = std::num::wrapping_sub_u32(second, 1);
     match verb {
-        order::CARRY => new(verb, other(end), 0),
-        order::LOSE => new(verb, other(end), std::num::wrapping_sub_u32(second, 1)),
-        order::DAMAGE => new(verb, other(end), std::num::wrapping_sub_u32(second, 1)),
+        order::CARRY => new(verb, to, 0),
+        order::LOSE => new(verb, to, number),
+        order::DAMAGE => new(verb, to, number),
         order::WAIT => new(PASS, DESK, first),
         order::CLOCK => new(PASS, DESK, std::num::wrapping_sub_u32(first, clock)),
         order::SETTLE => new(ROUND, DESK, 0),

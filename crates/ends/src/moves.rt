@@ -110,16 +110,14 @@ fn after_call(e: End, kind: usize, o: Outcome, took: usize, is_fresh: bool) -> E
     };
     let state = o.state;
     k.link = state;
-    match is_fresh {
-        true => {
-            k.taken = 0;
-            k.delivered = 0;
-        }
-        false => {
-            k.taken = std::num::wrapping_add_usize(e.taken, took);
-            k.delivered = std::num::wrapping_add_usize(e.delivered, (0 < o.delivered) as usize);
-        }
-    }
+    k.taken = match is_fresh {
+        true => 0,
+        false => std::num::wrapping_add_usize(e.taken, took),
+    };
+    k.delivered = match is_fresh {
+        true => 0,
+        false => std::num::wrapping_add_usize(e.delivered, (0 < o.delivered) as usize),
+    };
     k.dropped = std::num::wrapping_add_u64(e.dropped, o.dropped as u64);
     k
 }
