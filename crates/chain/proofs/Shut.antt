@@ -1,4 +1,4 @@
--- The wrong calls of specs/FalseCalls.antt, each tried at one input, of numbers and bytes that code can hold, by computing. Assumes nothing.
+-- The wrong calls of specs/FalseCalls.antt, each tried at one input or two, of numbers and bytes that code can hold, by computing. Assumes nothing.
 use mathlib.Core.Path.{_≡_, refl, ap}
 use mathlib.Core.Logic.{_≢_}
 use mathlib.Core.Bool.{true, false}

@@ -66,7 +66,7 @@ pub fn new(kind: usize, end: usize, number: u32) -> Move {
 // delivered_at, delivered: where in the store the packet begins that was delivered, in the frame that arrived, and its length; 0 where
 // none was. sent_at, sent: the same of the frame that was sent. freed, dropped: how many packets wait no more because they were
 // acknowledged, and because of a reset. is_crowded: what was sent is lost, since 64 frames are on their way already. heard: what was heard in
-// the frame that was carried. was_lost: the link was lost before.
+// the frame that was carried; of a resynchronise a reset. was_lost: the link was lost before.
 pub struct Event {
     pub heard: usize,
     pub delivered_at: usize,
@@ -242,7 +242,8 @@ fn uncalled(p: Ends, m: Move, store: &mut Store, bytes: &[u8]) -> Ends {
         LOSE => k = stretch::after(line::lose(p, m.end, store, m.number as usize), false),
         DAMAGE => {
             line::damage(p, m.end, store, m.number as usize, bytes);
-            k.phase = stretch::damaged_phase(p, bytes);
+            let e = end_of(p, m.end);
+            k.phase = stretch::damaged_phase(p, (m.number as usize) < e.queue, bytes);
         }
         PASS => {
             k.clock = std::num::wrapping_add_u32(p.clock, m.number);

@@ -12,7 +12,7 @@ use crate::moves::ROUND;
 use crate::moves::new;
 use state::Link;
 
-// The most rounds that document 01 promises to need.
+// The most rounds that demand 3 allows until all is through.
 pub const PROMISED: u64 = 24;
 
 fn is_due(l: Link, ms: u32) -> bool {

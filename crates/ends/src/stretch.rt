@@ -41,10 +41,10 @@ pub fn after(p: Ends, is_fresh: bool) -> Ends {
     k
 }
 
-// The phase after a frame has become these bytes.
-pub fn damaged_phase(p: Ends, bytes: &[u8]) -> usize {
+// The phase after a frame, if it is there, has become these bytes.
+pub fn damaged_phase(p: Ends, is_there: bool, bytes: &[u8]) -> usize {
     let heard = hearing::of(p.desk.link.settings.format, bytes);
-    match (SUM < heard) & (p.phase < FORGED) {
+    match is_there & (SUM < heard) & (p.phase < FORGED) {
         true => FORGED,
         false => p.phase,
     }

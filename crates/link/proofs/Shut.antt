@@ -1,4 +1,4 @@
--- The false ends of specs/FalseEnds.antt, each tried at one input, of numbers and bytes that code can hold, by computing. Assumes nothing.
+-- The wrong ends of specs/FalseEnds.antt, each tried at one input or two, of numbers and bytes that code can hold, by computing. Assumes nothing.
 use mathlib.Core.Path.{refl, ap}
 use mathlib.Core.Logic.{_≢_}
 use mathlib.Core.Bool.{Bool, true, false, cond}

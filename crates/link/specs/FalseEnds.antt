@@ -145,7 +145,7 @@ repeat same call l slots frame =
 abbrev pub repeatWhereSent : List ℕ → Change
 repeatWhereSent same call = instead sends (λ l slots frame right. repeat same call l slots frame) call
 
--- packets of number 0 are served (a state cannot tell the fifth from the first); of all others it is told as it should be, and nothing is written
+-- all is as it should be while the next number is 0 (a state cannot tell the fifth packet from the first); then it is told so, and nothing is written
 abbrev pub pretend : Change
 pretend call l slots frame =
     let right : After Outcome = call l slots frame in

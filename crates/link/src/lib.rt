@@ -48,7 +48,7 @@ pub fn acknowledge(l: Link, slots: &[u8], frame: &mut [u8], ms: u32) -> Outcome
     clock::acknowledge(l, slots, frame, ms)
 }
 
-// Begins anew at both ends, dropping what waits: the way out of a lost link.
+// Makes this end fresh, dropping what waits, and sends the reset for the other: the way out of a lost link.
 pub fn resynchronise(l: Link, slots: &[u8], frame: &mut [u8], ms: u32) -> Outcome
     ensures { λ r. ⌜ after r (now (slots .entry)) (now (frame .exit)) ≡ resynchronised l (now (slots .entry)) (now (frame .entry)) ⌝ }
 {

@@ -74,7 +74,7 @@ invents f =
     let wrong : Calls Link = withTake (inventing 1 0) in
     less 2 3 (omega arith) (sym (ap (λ (packets : List (List ℕ)). length (getD packets 0 [])) (f settings (run wrong invent) (reached wrong invent) .0)))
 
--- ---- submit serves the first packet and then only pretends: of loan B the chip gets a blank frame and asks again, the desk repeats what stands in
+-- ---- submit serves packet 0 and then pretends: of loan B the chip gets a blank frame and asks again, the desk repeats what stands in
 -- the slot, which nobody wrote, and the chip delivers that
 
 abbrev pretend : List Step
