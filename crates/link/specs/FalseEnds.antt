@@ -131,15 +131,7 @@ refuseDone answer = instead (answers done) (λ l slots frame right. refused l an
 abbrev pub repeat : List ℕ → Change
 repeat same call l slots frame =
     let right : After Outcome = call l slots frame in
-    after (record {
-      state = right .told .state;
-      sent = length same;
-      delivered = right .told .delivered;
-      dropped = right .told .dropped;
-      answer = right .told .answer;
-    })
-    (right .slots)
-    (put frame 0 same)
+    telling (length same) (right .told .dropped) (after (right .told) (right .slots) (put frame 0 same))
 
 -- the same, but only where a frame is to be sent. (Of resynchronise that is right, with the reset frame.)
 abbrev pub repeatWhereSent : List ℕ → Change
@@ -165,15 +157,11 @@ counting delivered dropped told = record {
   answer = told .answer;
 }
 
-abbrev pub invent : ℕ → ℕ → Change
-invent delivered dropped call l slots frame =
-    let right : After Outcome = call l slots frame in
-    after (counting delivered dropped (right .told)) (right .slots) (right .frame)
+abbrev pub inventWhere : (After Outcome → Bool) → ℕ → ℕ → Change
+inventWhere such delivered dropped = instead such (λ l slots frame right. after (counting delivered dropped (right .told)) (right .slots) (right .frame))
 
--- .. told of a duplicate only
-abbrev pub inventDuplicate : ℕ → ℕ → Call
-inventDuplicate delivered dropped =
-    takeBut (instead (answers unexpected) (λ l slots frame right. after (counting delivered dropped (right .told)) (right .slots) (right .frame)))
+abbrev pub invent : ℕ → ℕ → Change
+invent = inventWhere (λ right. true)
 
 -- as calls, for the statement of two ends (pair); refusing and idle are submit and take alike
 abbrev pub refusing : ℕ → Call
@@ -279,32 +267,17 @@ startLeaving other answer s slots =
     let right : Outcome = started s slots in
     cond (eqb (right .answer) answer) (only other answer) right
 
--- content also with settings that would be in range with one less of one of them: ..
-abbrev pub startMore : (Settings → Settings) → StartCall
-startMore less s slots =
-    cond (inRange s || inRange (less s))
-    (cond (ltb slots (slotsNeed s)) (only zeros shortBuffer) (only (freshOf s) done))
-    (only zeros outOfRange)
-
--- .. with an acknowledge timeout as long as TRANS_TIMEOUT, ..
-abbrev pub lessAcktimeout : Settings → Settings
-lessAcktimeout s = record {
-  format = s .format;
-  transtimeout = s .transtimeout;
-  acktimeout = s .acktimeout - 1;
-  window = s .window;
-  repeats = s .repeats;
-}
-
--- .. or a WIN_SIZE of 3
-abbrev pub lessWindow : Settings → Settings
-lessWindow s = record {
-  format = s .format;
-  transtimeout = s .transtimeout;
-  acktimeout = s .acktimeout;
-  window = s .window - 1;
-  repeats = s .repeats;
-}
+-- content also with settings that would be in range with an acknowledge timeout, and a WIN_SIZE, less by so much
+abbrev pub startMore : ℕ → ℕ → StartCall
+startMore acktimeout window s slots =
+    let less : Settings = record {
+      format = s .format;
+      transtimeout = s .transtimeout;
+      acktimeout = s .acktimeout - acktimeout;
+      window = s .window - window;
+      repeats = s .repeats;
+    } in
+    cond (inRange s || inRange less) (cond (ltb slots (slotsNeed s)) (only zeros shortBuffer) (only (freshOf s) done)) (only zeros outOfRange)
 
 -- "a fresh end has .. no NAK mark"
 abbrev pub startMarked : StartCall
@@ -460,7 +433,7 @@ onReset change l slots frame ms received =
 
 -- "5. Reset: the end becomes fresh .., waiting packets are dropped, their count is told.": it tells a frame as sent, ..
 abbrev pub tellsFrame : Change
-tellsFrame = instead (answers done) (λ l slots frame right. telling 5 (right .told .dropped) right)
+tellsFrame = instead (answers done) (λ l slots frame right. telling (length (resetFrame (l .settings .format))) (right .told .dropped) right)
 
 -- .. or, heard or sent, no drops, ..
 abbrev pub tellsNoDrops : Change
@@ -612,8 +585,8 @@ pub record StartShut : Type 0 where
   pub short-before-range : shortFirst ≢ started
   pub other-state-with-1 : (other : Link) → other ≢ zeros → startLeaving other outOfRange ≢ started
   pub other-state-with-2 : (other : Link) → other ≢ zeros → startLeaving other shortBuffer ≢ started
-  pub acknowledge-as-long : startMore lessAcktimeout ≢ started
-  pub window-of-three : startMore lessWindow ≢ started
+  pub acknowledge-as-long : startMore 1 0 ≢ started
+  pub window-of-three : startMore 0 1 ≢ started
   pub marked : startMarked ≢ started
 
 pub record SubmitShut : Type 0 where
@@ -651,7 +624,7 @@ pub record TakeShut : Type 0 where
   pub nak-ignored : nakIgnored ≢ frameTaken
   pub frees-one-only : freesOnly 1 ≢ frameTaken
   pub timer-restarted : restarts ≢ frameTaken
-  pub duplicate-counted : (delivered dropped : ℕ) → 1 ≤ delivered + dropped → inventDuplicate delivered dropped ≢ frameTaken
+  pub duplicate-counted : (delivered dropped : ℕ) → 1 ≤ delivered + dropped → takeBut (inventWhere (answers unexpected) delivered dropped) ≢ frameTaken
   pub reset-answered : onReset tellsFrame ≢ frameTaken
   pub reset-no-drops : onReset tellsNoDrops ≢ frameTaken
   pub reset-mark-left : onReset leavesMark ≢ frameTaken

@@ -21,7 +21,7 @@ use Rattle.send.specs.Submit.{sentFirst, packetAccepted}
 pub new-packet : (l : Link) (slots frame packet : List ℕ) (ms : ℕ) → slotOf l (l .next) < length (l .lengths) → partOf l (l .next) ≤ length slots
     → packetOf (packetAccepted l slots frame ms packet .told .state) (packetAccepted l slots frame ms packet .slots) (l .next) ≡ packet
 new-packet l slots frame packet ms h k =
-    rw (getD-set-same (l .lengths) (slotOf l (l .next)) (length packet) 0 h) (put-in slots packet (partOf l (l .next)) k)
+    rw (getD-set-same (l .lengths) (slotOf l (l .next)) (length packet) 0 h) (search (put-in))
 
 part-at : (l : Link) (k slot : ℕ) → slotOf l k ≡ slot → partOf l k ≡ slot * limitOf (l .settings)
 part-at l k slot e = rw e
