@@ -39,7 +39,8 @@ use Rattle.pair.specs.TrueCalls.{trueCalls, StartsFresh, System, sentBy,
 use Rattle.pair.proofs.Line.{Line, data-next, ack-next, idle-next, Idle, by-size, by-sum, a-nak}
 use Rattle.pair.proofs.Invariant.{Inv, inv-swap}
 use Rattle.pair.proofs.Calls.{heard-there, sent-frame, repeatOf, repeat-size, repeat-heard}
-use Rattle.pair.proofs.Moves.{moment-range, moment-kept, first-so-many}
+use Rattle.pair.proofs.Moments.{moment-range}
+use Rattle.pair.proofs.Moves.{moment-kept, first-so-many}
 use Rattle.pair.proofs.Measure.{bit, weight, CalmLook}
 use Rattle.pair.proofs.Timers.{Moved, moved}
 use Rattle.pair.proofs.Falls.{carried-falls, look-does, look-falls, onward-clock, within-24}

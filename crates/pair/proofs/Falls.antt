@@ -37,7 +37,8 @@ use Rattle.pair.specs.Demand3.{Through, Alive, WithinRounds, Within24}
 use Rattle.pair.specs.TrueCalls.{trueCalls, System, deliveredBy, takes, lookOf, looks, Enough, Carried, Carries, Looks, Round, Rounds}
 use Rattle.pair.proofs.Line.{Line, data-next, ack-next, idle-next, Idle, by-size, by-sum, a-nak, line-taken, line-freed}
 use Rattle.pair.proofs.Invariant.{Inv, inv-swap, window-small}
-use Rattle.pair.proofs.Moves.{take-kept, look-kept, moment-range, moment-kept}
+use Rattle.pair.proofs.Moments.{moment-range}
+use Rattle.pair.proofs.Moves.{take-kept, look-kept, moment-kept}
 use Rattle.pair.proofs.Measure.{looked-same, bit, bit-small, weight, spare-bound, freed-spare, again-weight, Calm, CalmLook, looked-look}
 
 -- ---- a frame taken

@@ -1,6 +1,7 @@
 pub mod Line
 pub mod Invariant
 pub mod Calls
+pub mod Moments
 pub mod Moves
 pub mod Measure
 pub mod Falls

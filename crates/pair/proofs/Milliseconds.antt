@@ -18,7 +18,8 @@ use Rattle.pair.specs.Round.{runs, dueAt, someRuns, someDue, Passes, sta
 use Rattle.pair.specs.Demand3.{Alive, InMilliseconds}
 use Rattle.pair.specs.TrueCalls.{trueCalls, System, Round, Rounds}
 use Rattle.pair.proofs.Invariant.{Inv, inv-swap}
-use Rattle.pair.proofs.Moves.{moment-range, moment-kept}
+use Rattle.pair.proofs.Moments.{moment-range}
+use Rattle.pair.proofs.Moves.{moment-kept}
 use Rattle.pair.proofs.Timers.{Soon, some-soon}
 use Rattle.pair.proofs.Falls.{Falls, Empty, Turned, Φ, Φ-bound, carries-falls, round-turns, rounds-fall, alive-before, onward-clock}
 

@@ -5,9 +5,9 @@ use mathlib.Core.List.{List}
 use Prim.Native.Nat.{ℕ, _≤_}
 use lib.ListN.{length}
 use Rattle.state.specs.Bounds.{frameNeed}
-use Rattle.pair.specs.System.{Calls, System, Side, swap, lookOf, looks}
+use Rattle.pair.specs.System.{Calls, System, swap, lookOf, looks}
 use Rattle.pair.specs.Round.{Enough, Looks, nothing, sends-on}
-use Rattle.pair.specs.Mixture.{Mixed, over, here-sends, here-nothing, there-sends, there-nothing, InTurn, AnyMixture}
+use Rattle.pair.specs.Mixture.{Mixed, over, here-sends, here-nothing, there-sends, there-nothing, AnyMixture}
 
 module _ {State : Type 0} (calls : Calls State) (ms : ℕ) where
   -- looks at the end here, or none where it has sent nothing already

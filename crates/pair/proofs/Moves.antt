@@ -25,7 +25,7 @@ use Rattle.state.specs.State.{lastCorrect, sentBefore}
 use Rattle.state.specs.Gate.{After, refused, gated, gateOf}
 use Rattle.state.specs.Calls.{resynchronised}
 use Rattle.state.specs.Formed.{InRange, Formed, Open}
-use Rattle.state.proofs.Facts.{inRange-facts, wellFormed-facts, gateOf-facts, gated-cases}
+use Rattle.state.proofs.Facts.{wellFormed-facts, gateOf-facts, gated-cases}
 use Rattle.state.proofs.Keeps.{marked-sound}
 use Rattle.state.specs.Timer.{packetDue, acknowledgeDue}
 use Rattle.send.specs.Repeat.{partOf, mayRepeat}
@@ -39,9 +39,12 @@ use Rattle.receive.proofs.Facts.{repeatable-holds, data-taken}
 use Rattle.clock.specs.Look.{afterOldest, exhausted, served, acknowledgedIf, lookedOpen, looked, acknowledgedNow}
 use Rattle.clock.proofs.Facts.{due-waits}
 use Rattle.link.proofs.Kept.{reset-refused}
-use Rattle.pair.specs.System.{swap, Harm, IsClock, submit, take-head, look, acknowledge, resynchronise, harm, start, here, there}
+use Rattle.link.specs.FalseEnds.{LookCall}
+use Rattle.pair.specs.System as Any
+use Rattle.pair.specs.System.{Harm, IsClock, submit, take-head, look, acknowledge, resynchronise, harm}
 use Rattle.pair.specs.Demand3.{FirstSoMany}
-use Rattle.pair.specs.TrueCalls.{trueCalls, System, sentBy, takenBy, deliveredBy, leftBy, called, submits, takes, looks, acknowledges, Move, Moment}
+use Rattle.pair.specs.TrueCalls.{trueCalls, withLook, System, sentBy, takenBy, deliveredBy, leftBy, called, submits, takes, looks, acknowledges, Moment}
+use Rattle.pair.proofs.Moments.{moment-range, moment-holds}
 use Rattle.pair.proofs.Line.{Line, data-next, ack-next, idle-next, Idle, by-size, by-sum, a-nak, line-taken, line-freed, line-mono}
 use Rattle.pair.proofs.Invariant.{Inv, inv-swap, restated, delivering, adding, inv-turned, inv-passed, inv-freed, inv-delivered, inv-added, inv-harm, inv-start, inv-first, window-small}
 use Rattle.pair.proofs.Calls.{heard-there, sent-frame, last-said, Before, concluded-silent, concluded-ack, concluded-nothing, concluded-nak, concluded-repeat}
@@ -185,7 +188,7 @@ accepted-kept s S frame packet ms c r I a =
     (sentFirst-sound l ms (length (S .here .slots)) (length frame) (length packet) (I .here .sound) a)
     (a .least) (a .most) (a .place) (put-length (S .here .slots) packet (partOf l (l .next)) fits) heard-as (packet-heard (l .settings .format) (l .next) (lastCorrect l) packet))
 
-pub submit-kept : (s : Settings) (S : System) (frame packet : List ℕ) (ms : ℕ) → IsClock ms → InRange s → Inv s S → Inv s (submits S frame ms packet)
+submit-kept : (s : Settings) (S : System) (frame packet : List ℕ) (ms : ℕ) → IsClock ms → InRange s → Inv s S → Inv s (submits S frame ms packet)
 unfolding submitted
 submit-kept s S frame packet ms c r I =
     gated-cases (λ a. Inv s (called S a (S .here .queue) (takenBy a packet) [])) g l (S .here .slots) frame (packetAccepted l (S .here .slots) frame ms packet)
@@ -251,13 +254,13 @@ pub look-kept : (s : Settings) (S : System) (frame : List ℕ) (ms : ℕ) → Is
 unfolding looked
 look-kept s S frame ms c r I = open-kept s S frame (lookedOpen (S .here .state) (S .here .slots) frame ms) I (λ room. lookedOpen-kept s S frame ms c r room I)
 
-pub acknowledge-kept : (s : Settings) (S : System) (frame : List ℕ) → InRange s → Inv s S → Inv s (acknowledges S frame)
+acknowledge-kept : (s : Settings) (S : System) (frame : List ℕ) → InRange s → Inv s S → Inv s (acknowledges S frame)
 unfolding acknowledgedNow
 acknowledge-kept s S frame r I =
     open-kept s S frame (acknowledgedIf (S .here .state .acking) (S .here .state) (S .here .slots) frame) I (λ room. acknowledged-kept s S frame (S .here .state .acking) r room I)
 
 -- a resynchronise that is refused
-pub reset-kept : (s : Settings) (S : System) (frame : List ℕ) → (resynchronised (S .here .state) (S .here .slots) frame .told .answer ≡ done → ⊥) → Inv s S
+reset-kept : (s : Settings) (S : System) (frame : List ℕ) → (resynchronised (S .here .state) (S .here .slots) frame .told .answer ≡ done → ⊥) → Inv s S
     → Inv s (called S (resynchronised (S .here .state) (S .here .slots) frame) (S .here .queue) [] [])
 reset-kept s S frame n I =
     subst (λ (a : After Outcome). Inv s (called S a (S .here .queue) [] [])) (sym (reset-refused (S .here .state) (S .here .slots) frame n))
@@ -265,24 +268,24 @@ reset-kept s S frame n I =
 
 -- ---- every move, every moment
 
-pub move-kept : (s : Settings) (S T : System) → InRange s → Move S T → Inv s S → Inv s T
-move-kept s S T r (submit frame packet ms c) I = submit-kept s S frame packet ms c r I
-move-kept s S T r (take-head frame received rest ms c e) I = take-kept s S frame received rest ms c r e I
-move-kept s S T r (look frame ms c) I = look-kept s S frame ms c r I
-move-kept s S T r (acknowledge frame) I = acknowledge-kept s S frame r I
-move-kept s S T r (resynchronise frame n) I = reset-kept s S frame n I
-move-kept s S T r (harm queue k) I = inv-harm s S queue (subst (λ (x : Settings). Harm (x .format) (S .here .queue) queue) (I .here .settings) k) I
+-- of the true link, or of one that looks in another way
+move-kept : (call : LookCall) (s : Settings) → InRange s → ((S : System) (frame : List ℕ) (ms : ℕ) → IsClock ms → Inv s S → Inv s (Any.looks (withLook call) S frame ms))
+    → (S T : System) → Any.Move (withLook call) S T → Inv s S → Inv s T
+move-kept call s r f S T (submit frame packet ms c) I = submit-kept s S frame packet ms c r I
+move-kept call s r f S T (take-head frame received rest ms c e) I = take-kept s S frame received rest ms c r e I
+move-kept call s r f S T (look frame ms c) I = f S frame ms c I
+move-kept call s r f S T (acknowledge frame) I = acknowledge-kept s S frame r I
+move-kept call s r f S T (resynchronise frame n) I = reset-kept s S frame n I
+move-kept call s r f S T (harm queue k) I = inv-harm s S queue (subst (λ (x : Settings). Harm (x .format) (S .here .queue) queue) (I .here .settings) k) I
 
--- a moment's settings are in range
-pub moment-range : (s : Settings) (S : System) → Moment s S → InRange s
-moment-range s S (start slots slots2 r h k) = inRange-facts s r
-moment-range s T (here S T₁ m v) = moment-range s S m
-moment-range s T (there S T₁ m v) = moment-range s S m
+pub moment-holds-by : (call : LookCall) (s : Settings) (S : System)
+    → (InRange s → (S : System) (frame : List ℕ) (ms : ℕ) → IsClock ms → Inv s S → Inv s (Any.looks (withLook call) S frame ms)) → Any.Moment (withLook call) s S → Inv s S
+moment-holds-by call s S f m =
+    let r : InRange s = moment-range s S m in
+    moment-holds (withLook call) s (Inv s) (inv-swap s) (λ slots slots2 h k. inv-start s slots slots2 r h k) (move-kept call s r (f r)) S m
 
 pub moment-kept : (s : Settings) (S : System) → Moment s S → Inv s S
-moment-kept s S (start slots slots2 r h k) = inv-start s slots slots2 (inRange-facts s r) h k
-moment-kept s T (here S T₁ m v) = move-kept s S T (moment-range s S m) v (moment-kept s S m)
-moment-kept s T (there S T₁ m v) = inv-swap s (swap T) (move-kept s (swap S) (swap T) (moment-range s S m) v (inv-swap s S (moment-kept s S m)))
+moment-kept s S m = moment-holds-by looked s S (λ r S frame ms c I. look-kept s S frame ms c r I) m
 
 pub first-so-many : FirstSoMany trueCalls
 first-so-many s S m = inv-first s S (moment-kept s S m)

@@ -18,10 +18,10 @@ use Rattle.link.specs.FalseEnds.{repeating, idle, pretending, inventing, overGa
 use Rattle.pair.specs.System.{Calls, swap, seenBoth, lookOf, looks, IsClock, Moment, start}
 use Rattle.pair.specs.Round.{Enough, none, Passes, moves, stays, Looks, nothing, Round, round}
 use Rattle.pair.specs.Demand3.{FirstSoMany, Within24, Through, Alive}
-use Rattle.pair.specs.TrueCalls.{System}
-use Rattle.pair.specs.Run.{settings, buffer, slots, loanA, loanB}
+use Rattle.pair.specs.TrueCalls.{System, withSubmit, withTake, withLook}
+use Rattle.pair.specs.Run.{settings, buffer, loanA, loanB}
 use Rattle.pair.specs.History.{submits-at, takes-at, looks-at, acknowledges-now, loses, Step, desk, chip, run, room, fresh}
-use Rattle.pair.specs.FalseCalls.{withSubmit, withTake, withLook, keeping, takenKept, lookedKept, asKept, storing, late, Refuted, LineKept}
+use Rattle.pair.specs.FalseCalls.{keeping, takenKept, lookedKept, asKept, storing, late, Refuted, LineKept}
 use Rattle.pair.proofs.Acts.{told-moment, still}
 
 -- ---- what the histories share

@@ -15,30 +15,29 @@ use Rattle.frame.specs.declared.Format.{Format}
 use Rattle.frame.specs.Bytes.{frameOf, ackFrame}
 use Rattle.frame.proofs.Writing.{frameOf-length}
 use Rattle.state.specs.declared.Settings.{Settings}
-use Rattle.state.specs.declared.Link.{Link}
-use Rattle.state.specs.Bounds.{inRange, frameNeed, slotsNeed}
+use Rattle.state.specs.Bounds.{inRange, frameNeed}
 use Rattle.state.specs.State.{lastCorrect, freshOf}
 use Rattle.state.specs.declared.Outcome.{Outcome}
 use Rattle.state.specs.Gate.{After, after, refused}
 use Rattle.state.specs.Timer.{onward}
 use Rattle.state.specs.Formed.{InRange}
-use Rattle.state.proofs.Facts.{inRange-facts}
 use Rattle.send.specs.Submit.{submitted}
 use Rattle.send.specs.Makers.{concluded, sendsAck}
 use Rattle.receive.specs.Take.{frameTaken}
 use Rattle.clock.specs.Look.{looked}
 use Rattle.link.specs.FalseEnds.{inventing, lookedWhen, bySizeWrapped}
-use Rattle.pair.specs.System.{swap, lookOf, looks, Harm, lost, damaged, later, IsClock, Move, submit, take-head, look, acknowledge, resynchronise, harm, Moment, start, here, there}
+use Rattle.pair.specs.System.{swap, Harm, lost, damaged, later, IsClock, Move, submit, take-head, look, acknowledge, resynchronise, harm, Moment, start}
 use Rattle.pair.specs.Round as Rounding
-use Rattle.pair.specs.Round.{Enough, Carried, head, Carries, none, stays, Looks, nothing, sends-on, Round, round, other-first, Rounds, begin, next}
-use Rattle.pair.specs.Demand3.{FirstSoManyOf, FirstSoMany, Within24, Through, Demand3, Played, RoundsExist}
-use Rattle.pair.specs.TrueCalls.{System, sentBy, called, freshSide, trueCalls}
+use Rattle.pair.specs.Round.{Carried, head, Carries, none, stays, Looks, nothing, sends-on, Round, round, other-first, Rounds, begin, next}
+use Rattle.pair.specs.Demand3.{FirstSoManyOf, Through, Demand3, Played, RoundsExist}
+use Rattle.pair.specs.TrueCalls.{System, sentBy, called, freshSide, withTake, withLook, trueCalls}
 use Rattle.pair.specs.Run.{settings, slots, moment0}
 use Rattle.pair.specs.History.{run}
-use Rattle.pair.specs.FalseCalls.{withTake, withLook, refusingAll, chatting, hasty, Unseen}
-use Rattle.pair.proofs.Invariant.{Inv, inv-swap, inv-harm, inv-start, inv-first}
+use Rattle.pair.specs.FalseCalls.{refusingAll, chatting, hasty, Unseen}
+use Rattle.pair.proofs.Invariant.{Inv, inv-first}
 use Rattle.pair.proofs.Calls.{called-turned, inv-acked}
-use Rattle.pair.proofs.Moves.{take-kept, submit-kept, acknowledge-kept, reset-kept}
+use Rattle.pair.proofs.Moments.{moment-holds}
+use Rattle.pair.proofs.Moves.{moment-holds-by}
 use Rattle.pair.proofs.Exist.{blank, blank-length}
 use Rattle.pair.proofs.Acts.{still}
 
@@ -81,23 +80,8 @@ chat-look s S frame r I =
     let sent : sentBy (concluded (sendsAck (S .here .state) frame) done 0 (S .here .slots)) ≡ bytes ∷ [] = rw (some, chat-sent frame bytes) in
     subst (Inv s) (sym (called-turned S (concluded (sendsAck (S .here .state) frame) done 0 (S .here .slots)) (S .here .queue) (bytes ∷ []) sent refl)) (inv-acked s S r I)
 
-chat-move : (s : Settings) (S T : System) → InRange s → Move (withLook chatting) S T → Inv s S → Inv s T
-chat-move s S T r (submit frame packet ms c) I = submit-kept s S frame packet ms c r I
-chat-move s S T r (take-head frame received rest ms c e) I = take-kept s S frame received rest ms c r e I
-chat-move s S T r (look frame ms c) I = chat-look s S frame r I
-chat-move s S T r (acknowledge frame) I = acknowledge-kept s S frame r I
-chat-move s S T r (resynchronise frame n) I = reset-kept s S frame n I
-chat-move s S T r (harm queue k) I = inv-harm s S queue (subst (λ (x : Settings). Harm (x .format) (S .here .queue) queue) (I .here .settings) k) I
-
-chat-range : (s : Settings) (S : System) → Moment (withLook chatting) s S → InRange s
-chat-range s S (start slots slots2 r h k) = inRange-facts s r
-chat-range s T (here S T₁ m v) = chat-range s S m
-chat-range s T (there S T₁ m v) = chat-range s S m
-
 chat-moment : (s : Settings) (S : System) → Moment (withLook chatting) s S → Inv s S
-chat-moment s S (start slots slots2 r h k) = inv-start s slots slots2 (inRange-facts s r) h k
-chat-moment s T (here S T₁ m v) = chat-move s S T (chat-range s S m) v (chat-moment s S m)
-chat-moment s T (there S T₁ m v) = inv-swap s (swap T) (chat-move s (swap S) (swap T) (chat-range s S m) v (inv-swap s S (chat-moment s S m)))
+chat-moment s S m = moment-holds-by chatting s S (λ r S frame ms c I. chat-look s S frame r I) m
 
 -- ---- every call refuses
 
@@ -131,14 +115,13 @@ module _ (answer : ℕ) (no : answer ≡ done → ⊥) where
     slots2 : List ℕ
     same : S ≡ atStart s slots slots2
 
+  begun-move : (s : Settings) (S T : System) → Move (refusingAll answer) S T → Begun s S → Begun s T
+  begun-move s S T v b = record { slots = b .slots; slots2 = b .slots2; same = move-same S T (ap (λ (X : System). X .here .queue) (b .same)) v ∙ b .same }
+
   begun-moment : (s : Settings) (S : System) → Moment (refusingAll answer) s S → Begun s S
-  begun-moment s S (start slots slots2 r h k) = record { slots = slots; slots2 = slots2; same = refl }
-  begun-moment s T (here S T₁ m v) =
-      let b : Begun s S = begun-moment s S m in
-      record { slots = b .slots; slots2 = b .slots2; same = move-same S T (ap (λ (X : System). X .here .queue) (b .same)) v ∙ b .same }
-  begun-moment s T (there S T₁ m v) =
-      let b : Begun s S = begun-moment s S m in
-      record { slots = b .slots; slots2 = b .slots2; same = ap swap (move-same (swap S) (swap T) (ap (λ (X : System). X .there .queue) (b .same)) v) ∙ b .same }
+  begun-moment s S m =
+      moment-holds (refusingAll answer) s (Begun s) (λ S b. record { slots = b .slots2; slots2 = b .slots; same = ap swap (b .same) })
+      (λ slots slots2 h k. record { slots = slots; slots2 = slots2; same = refl }) (begun-move s) S m
 
   no-carried : (ms : ℕ) (S T : System) → S .here .queue ≡ [] → Carried (refusingAll answer) ms S T → ⊥
   no-carried ms S T noHere (head frame received rest room e) = no-head received rest (sym noHere ∙ e)

@@ -25,20 +25,9 @@ use Rattle.clock.specs.Look.{looking, looked, acknowledgedNow}
 use Rattle.link.specs.FalseEnds.{Call, LookCall, outcomeOf, lookBut, refuse, refusing, repeating, idle, pretending, inventing, overGap, neverAcks, lookedWhen, bySize, bySizeWrapped}
 use Rattle.pair.specs.System.{Calls, swap, withQueue}
 use Rattle.pair.specs.Demand3.{FirstSoManyOf, FirstSoMany, Within24, RoundsExist, Demand3}
-use Rattle.pair.specs.TrueCalls.{System, linkOf, trueCalls}
+use Rattle.pair.specs.TrueCalls.{System, linkOf, withSubmit, withTake, withLook, trueCalls}
 use Rattle.pair.specs.Run.{settings, loanA, loanB}
 use Rattle.pair.specs.History.{Step, desk, chip, submits-at, takes-at, looks-at, acknowledges-now, told, run}
-
--- ---- the true link but for one call
-
-abbrev pub withSubmit : Call → Calls Link
-withSubmit call = linkOf call frameTaken looked acknowledgedNow resynchronised
-
-abbrev pub withTake : Call → Calls Link
-withTake call = linkOf submitted call looked acknowledgedNow resynchronised
-
-abbrev pub withLook : LookCall → Calls Link
-withLook call = linkOf submitted frameTaken call acknowledgedNow resynchronised
 
 -- ---- "Repeating stored frame bytes: an old ACK three numbers back reads as one ahead."
 

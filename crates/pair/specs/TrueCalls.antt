@@ -39,6 +39,16 @@ linkOf submit take look acknowledge resynchronise = record {
 abbrev pub trueCalls : Calls Link
 trueCalls = linkOf submitted frameTaken looked acknowledgedNow resynchronised
 
+-- the same but for one call
+abbrev pub withSubmit : Call → Calls Link
+withSubmit call = linkOf call frameTaken looked acknowledgedNow resynchronised
+
+abbrev pub withTake : Call → Calls Link
+withTake call = linkOf submitted call looked acknowledgedNow resynchronised
+
+abbrev pub withLook : LookCall → Calls Link
+withLook call = linkOf submitted frameTaken call acknowledgedNow resynchronised
+
 -- and whose ends begin as start leaves them
 abbrev pub StartsFresh : Type 0
 StartsFresh = (s : Settings) (slots : ℕ) → started s slots .answer ≡ done → started s slots .state ≡ trueCalls .fresh s
