@@ -25,7 +25,7 @@ use Rattle.send.specs.Submit.{sentFirst}
 use Rattle.send.proofs.Slots.{new-packet, old-packet}
 use Rattle.receive.specs.Steps.{freed, afterDelivery}
 use Rattle.receive.proofs.Keeps.{freed-sound, afterDelivery-sound}
-use Rattle.pair.specs.System.{queued, swap, Harm, IsClock}
+use Rattle.pair.specs.System.{queued, requeued, swap, Harm, IsClock}
 use Rattle.pair.specs.Demand3.{FirstSoManyOf}
 use Rattle.pair.specs.TrueCalls.{Side, System, freshSide}
 use Rattle.pair.proofs.Line.{Line, clear, line-taken, line-freed, line-mono, line-tail, line-harm, line-data, line-more}
@@ -78,13 +78,7 @@ inv-swap s S I = record {
 abbrev pub turned : System → Link → List (List ℕ) → List (List ℕ) → System
 turned S l queue sent = record {
   here = record { state = l; slots = S .here .slots; queue = queue; taken = S .here .taken; delivered = S .here .delivered };
-  there = record {
-    state = S .there .state;
-    slots = S .there .slots;
-    queue = queued (S .there .queue) sent;
-    taken = S .there .taken;
-    delivered = S .there .delivered;
-  };
+  there = requeued (S .there) (queued (S .there .queue) sent);
 }
 
 pub way-changed : (s : Settings) (x : Side) (t : List (List ℕ)) (b g : ℕ) (starts repeated : List ℕ) (ackstart : ℕ) (acking nakmark lost : Bool) (queue : List (List ℕ))
@@ -105,7 +99,7 @@ way-changed s x t b g starts repeated ackstart acking nakmark lost queue w k c =
 }
 
 way-there : (s : Settings) (x : Side) (t : List (List ℕ)) (b g : ℕ) (queue : List (List ℕ)) → Way s x t b g
-    → Way s (record { state = x .state; slots = x .slots; queue = queue; taken = x .taken; delivered = x .delivered }) t b g
+    → Way s (requeued x queue) t b g
 way-there s x t b g queue w =
     way-changed s x t b g (x .state .starts) (x .state .repeated) (x .state .ackstart) (x .state .acking) (x .state .nakmark) (x .state .lost) queue w (w .sound) (w .timed)
 
@@ -244,13 +238,7 @@ inv-delivered s S ms x q packet I c lo more p w =
 abbrev pub adding : System → Link → List ℕ → List ℕ → List (List ℕ) → System
 adding S l slots packet sent = record {
   here = record { state = l; slots = slots; queue = S .here .queue; taken = S .here .taken ++ (packet ∷ []); delivered = S .here .delivered };
-  there = record {
-    state = S .there .state;
-    slots = S .there .slots;
-    queue = queued (S .there .queue) sent;
-    taken = S .there .taken;
-    delivered = S .there .delivered;
-  };
+  there = requeued (S .there) (queued (S .there .queue) sent);
 }
 
 -- where it is added, each waiting packet stands in its slot

@@ -59,6 +59,10 @@ pub record System (State : Type 0) : Type 0 where
 abbrev pub swap : {State : Type 0} → System State → System State
 swap S = record { here = S .there; there = S .here }
 
+-- an end with another queue towards it
+abbrev pub requeued : {State : Type 0} → Side State → List (List ℕ) → Side State
+requeued x queue = record { state = x .state; slots = x .slots; queue = queue; taken = x .taken; delivered = x .delivered }
+
 -- the same two ends, their states seen as document 01's
 abbrev pub seenSide : {State : Type 0} → Calls State → Side State → Side Link
 seenSide calls x = record { state = calls .seen (x .state); slots = x .slots; queue = x .queue; taken = x .taken; delivered = x .delivered }
@@ -99,13 +103,7 @@ called S a queue taken delivered = record {
     taken = S .here .taken ++ taken;
     delivered = S .here .delivered ++ delivered;
   };
-  there = record {
-    state = S .there .state;
-    slots = S .there .slots;
-    queue = queued (S .there .queue) (sentBy a);
-    taken = S .there .taken;
-    delivered = S .there .delivered;
-  };
+  there = requeued (S .there) (queued (S .there .queue) (sentBy a));
 }
 
 abbrev pub submits : {State : Type 0} → Calls State → System State → List ℕ → ℕ → List ℕ → System State
@@ -143,16 +141,7 @@ pub data Harm (format : Format) : List (List ℕ) → List (List ℕ) → Type 0
   later : (x : List ℕ) (q r : List (List ℕ)) → Harm format q r → Harm format (x ∷ q) (x ∷ r)
 
 abbrev pub withQueue : {State : Type 0} → System State → List (List ℕ) → System State
-withQueue S queue = record {
-  here = record {
-    state = S .here .state;
-    slots = S .here .slots;
-    queue = queue;
-    taken = S .here .taken;
-    delivered = S .here .delivered;
-  };
-  there = S .there;
-}
+withQueue S queue = record { here = requeued (S .here) queue; there = S .there }
 
 -- ---- moves
 
