@@ -1,4 +1,4 @@
-// Why a call refuses. Where document 01 has one number for several reasons, the one that is true is told.
+// Why a call refuses. Where R8 has one number for several reasons, the one that is true is told.
 use crate::words;
 use crate::words::say;
 use base::answer;

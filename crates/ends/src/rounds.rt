@@ -1,5 +1,4 @@
-// Document 01's timer round, move by move: "carry frames, the two queues in any mixture, until both are empty; if no timer is due, move
-// the clock to the first moment one is (if none runs, it stays); then look at the clock at each end until it sends nothing".
+// The timer round of R6.5, move by move.
 use crate::CHIP;
 use crate::DESK;
 use crate::Ends;
@@ -12,7 +11,7 @@ use crate::moves::ROUND;
 use crate::moves::new;
 use state::Link;
 
-// The most rounds that demand 3 allows until all is through.
+// R14.4: the most rounds until all is through.
 pub const PROMISED: u64 = 24;
 
 fn is_due(l: Link, ms: u32) -> bool {

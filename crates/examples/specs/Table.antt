@@ -1,4 +1,4 @@
--- Document 01's twelve examples, of the definitions, in one table.
+-- The twelve examples of R10, of the definitions, in one table. R10.13: others are worked out by the program of this crate.
 use Prim.Native.Nat.{ℕ, _≤_}
 use mathlib.Core.Bool.{true, false}
 use mathlib.Core.List.{List, [], _∷_}
@@ -46,37 +46,37 @@ abbrev pub told : Link → ℕ → ℕ → ℕ → Outcome
 told l answer sent delivered = record { state = l; sent = sent; delivered = delivered; dropped = 0; answer = answer }
 
 pub record Table : Type 0 where
-  -- "The checksum of the ASCII digits 123456789 is 0x2189."
+  -- R10.1
   pub example1 : checksumOf (0x31 ∷ 0x32 ∷ 0x33 ∷ 0x34 ∷ 0x35 ∷ 0x36 ∷ 0x37 ∷ 0x38 ∷ 0x39 ∷ []) ≡ 0x2189
-  -- "80 00 00 ends EC 0C."
+  -- R10.2
   pub example2 : (format : Format) → ackFrame format 0 ≡ 0x80 ∷ 0x00 ∷ 0x00 ∷ 0xEC ∷ 0x0C ∷ []
-  -- "81 00 00 ends 30 56."
+  -- R10.3
   pub example3 : (format : Format) → ackFrame format 1 ≡ 0x81 ∷ 0x00 ∷ 0x00 ∷ 0x30 ∷ 0x56 ∷ []
-  -- "A0 00 00 ends D7 0F."
+  -- R10.4
   pub example4 : (format : Format) → nakFrame format 0 ≡ 0xA0 ∷ 0x00 ∷ 0x00 ∷ 0xD7 ∷ 0x0F ∷ []
-  -- "C0 00 00 ends 9A 0A."
+  -- R10.5
   pub example5 : (format : Format) → sealed format (0xC0 ∷ 0x00 ∷ 0x00 ∷ []) ≡ resetFrame format
-  -- "03 00 01 00 ends 15 3C (data 0, ACK 3)."
+  -- R10.6
   pub example6 : (format : Format) → dataFrame format 0 3 (0x00 ∷ []) ≡ 0x03 ∷ 0x00 ∷ 0x01 ∷ 0x00 ∷ 0x15 ∷ 0x3C ∷ []
-  -- "Five zero bytes have a right checksum": as it is written ..
+  -- R10.7, the checksum: as it is written ..
   pub example7-sum : (format : Format) → sealed format (0x00 ∷ 0x00 ∷ 0x00 ∷ []) ≡ 0x00 ∷ 0x00 ∷ 0x00 ∷ 0x00 ∷ 0x00 ∷ []
   -- .. and as it is read: not step 1 refuses them, which answers 6 too, but step 4
   pub example7-step4 : (format : Format) → 5 ≤ format .d → heard format (0x00 ∷ 0x00 ∷ 0x00 ∷ 0x00 ∷ 0x00 ∷ []) ≡ Length
-  -- "a fresh end answers 6 and sends example 4's frame."
+  -- R10.7, the answer, and the frame of R10.4
   pub example7 : (e : End) → frameTaken (freshOf (e .settings)) (e .slots) (e .frame) (e .ms) (0x00 ∷ 0x00 ∷ 0x00 ∷ 0x00 ∷ 0x00 ∷ [])
       ≡ after (told (withNakmark (freshOf (e .settings)) true) badFrame 5 0) (e .slots) (put (e .frame) 0 (0xA0 ∷ 0x00 ∷ 0x00 ∷ 0xD7 ∷ 0x0F ∷ []))
-  -- "Example 6 at a fresh end is delivered."
+  -- R10.8
   pub example8 : (e : End) → example6Taken e ≡ after (told (delivered0 e) done 0 1) (e .slots) (e .frame)
   pub example8-packet : (e : End) → packetIn (0x03 ∷ 0x00 ∷ 0x01 ∷ 0x00 ∷ 0x15 ∷ 0x3C ∷ []) (example6Taken e .told .delivered) ≡ 0x00 ∷ []
-  -- "The same again: 9, and example 2's frame goes out.": at any millisecond, with all as example 8 left it
+  -- R10.9: at any millisecond, with all as example 8 left it
   pub example9 : (e : End) (later : ℕ) → frameTaken (example6Taken e .told .state) (example6Taken e .slots) (example6Taken e .frame) later
       (0x03 ∷ 0x00 ∷ 0x01 ∷ 0x00 ∷ 0x15 ∷ 0x3C ∷ [])
       ≡ after (told (withAcking (delivered0 e) false) unexpected 5 0) (e .slots) (put (e .frame) 0 (0x80 ∷ 0x00 ∷ 0x00 ∷ 0xEC ∷ 0x0C ∷ []))
-  -- "m = 11: 10 bytes make one packet."
+  -- R10.10
   pub example10 : (a b c d e f g h i j : ℕ) → packetsOf 11 onlyChannel (a ∷ b ∷ c ∷ d ∷ e ∷ f ∷ g ∷ h ∷ i ∷ j ∷ [])
       ≡ (0x00 ∷ a ∷ b ∷ c ∷ d ∷ e ∷ f ∷ g ∷ h ∷ i ∷ j ∷ []) ∷ []
-  -- "11 bytes make packets of 11 and 2."
+  -- R10.11
   pub example11 : (a b c d e f g h i j k : ℕ) → packetsOf 11 onlyChannel (a ∷ b ∷ c ∷ d ∷ e ∷ f ∷ g ∷ h ∷ i ∷ j ∷ k ∷ [])
       ≡ (0x01 ∷ a ∷ b ∷ c ∷ d ∷ e ∷ f ∷ g ∷ h ∷ i ∷ j ∷ []) ∷ (0x04 ∷ k ∷ []) ∷ []
-  -- "Start 4,294,967,290 and now 4: 10 ms elapsed."
+  -- R10.12
   pub example12 : elapsed 4294967290 4 ≡ 10

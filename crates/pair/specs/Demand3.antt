@@ -1,5 +1,5 @@
--- Demand 3, the customer's third demand, of any link: what is quoted after `demand 3:` is in its words and not in document 01's. FirstSoMany and
--- Within24 are its two halves; the first holds past a lost link too.
+-- The third demand, of any link: R14.3 is FirstSoMany, R14.4 Within24. The first holds past a lost link too. Said of the calls' own definitions
+-- (R13.5), and once for every D and both sizes of window (R13.6).
 use Prim.Native.Nat.{ℕ, _+_, _*_, _≤_}
 use mathlib.Core.Bool.{false}
 use mathlib.Core.List.{List}
@@ -10,7 +10,7 @@ use Rattle.state.specs.declared.Link.{Link}
 use Rattle.pair.specs.System.{Calls, System, seenBoth, IsClock, Moment}
 use Rattle.pair.specs.Round.{Carries, carriedIn, Rounds}
 
--- demand 3: "the packets delivered each way are at every moment the first so many of those taken: same bytes, same order, each once"
+-- R14.3: the one list is the beginning of the other, byte for byte; here in both directions at every moment
 abbrev pub FirstSoManyOf : List (List ℕ) → List (List ℕ) → Type 0
 FirstSoManyOf delivered taken = delivered ≡ take (length delivered) taken
 
@@ -19,20 +19,19 @@ FirstSoMany {State} calls =
     (s : Settings) (S : System State) → Moment calls s S
     → FirstSoManyOf (S .there .delivered) (S .here .taken) × FirstSoManyOf (S .here .delivered) (S .there .taken)
 
--- demand 3: "every packet taken is delivered and both windows are empty"
+-- R14.4, what is to come about
 pub record Through (S : System Link) : Type 0 where
   pub forth : S .there .delivered ≡ S .here .taken
   pub back : S .here .delivered ≡ S .there .taken
   pub window-here : S .here .state .waiting ≡ 0
   pub window-there : S .there .state .waiting ≡ 0
 
--- demand 3: "no link is declared lost": the mark stays once it is set
+-- R14.4: no link is lost. The mark stays once it is set, so it is enough to look at it in the end.
 pub record Alive (S : System Link) : Type 0 where
   pub here : S .here .state .lost ≡ false
   pub there : S .there .state .lost ≡ false
 
--- demand 3: "From any such moment, if nothing new is handed in, nothing more is lost or damaged and no link is declared lost, then within 24 timer
--- rounds of document 01 every packet taken is delivered and both windows are empty, wherever the clock wraps": after 24 rounds, and after any more
+-- R14.4: a round holds no submit, no loss and no damage. Through after so many rounds, and after any more.
 abbrev pub WithinRounds : {State : Type 0} → ℕ → Calls State → Type 0
 WithinRounds {State} bound calls =
     (s : Settings) (S T : System State) (ms n total : ℕ) → Moment calls s S → IsClock ms → bound ≤ n → Rounds calls ms S n total T → Alive (seenBoth calls T)
@@ -41,7 +40,7 @@ WithinRounds {State} bound calls =
 abbrev pub Within24 : {State : Type 0} → Calls State → Type 0
 Within24 calls = WithinRounds 24 calls
 
--- From any moment and at any clock so many rounds can be played as one likes: without this a link that sends at every look would meet Within24,
+-- R14.4: from any moment and at any clock so many rounds can be played as one likes: without this a link that sends at every look would meet Within24,
 -- since none of its rounds ever ends.
 pub record Played {State : Type 0} (calls : Calls State) (ms : ℕ) (S : System State) (n : ℕ) : Type 0 where
   pub end : System State
@@ -59,7 +58,7 @@ pub record Demand3 {State : Type 0} (calls : Calls State) : Type 0 where
 
 -- ---- beyond the demand: two statements that nobody asked for
 
--- "until both are empty" comes about in every mixture. 4: a damaged frame costs itself, a NAK, a repeat and an ACK.
+-- The carrying of R6.5 ends, in every mixture. 4: a damaged frame costs itself, a NAK, a repeat and an ACK.
 abbrev pub CarryingEnds : {State : Type 0} → Calls State → Type 0
 CarryingEnds {State} calls =
     (s : Settings) (S T : System State) (ms : ℕ) → Moment calls s S → IsClock ms → (carries : Carries calls ms S T)

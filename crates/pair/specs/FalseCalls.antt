@@ -1,6 +1,6 @@
--- Wrong links, and what of demand 3 each breaks: proofs/Refuted.antt shows it by a history of each, computed. Then wrong links that demand 3, or a
--- half of it, does not see: proofs/Unseen.antt. What is quoted is document 01's. An end of one call alone is in FalseEnds.antt (link), where the
--- call's own equation shuts it out.
+-- Wrong links, and what of the third demand (R14.3, R14.4) each breaks: proofs/Refuted.antt shows it by a history of each, computed. Then wrong
+-- links that this demand, or a half of it, does not see: proofs/Unseen.antt. An end of one call alone is in FalseEnds.antt (link), where the call's
+-- own equation shuts it out.
 use Prim.Native.Nat.{ℕ, _+_, _*_}
 use mathlib.Core.Bool.{true, false, cond}
 use mathlib.Core.List.{List, [], _∷_, _++_}
@@ -29,7 +29,7 @@ use Rattle.pair.specs.TrueCalls.{System, linkOf, withSubmit, withTake, w
 use Rattle.pair.specs.Run.{settings, loanA, loanB}
 use Rattle.pair.specs.History.{Step, desk, chip, submits-at, takes-at, looks-at, acknowledges-now, told, run}
 
--- ---- "Repeating stored frame bytes: an old ACK three numbers back reads as one ahead."
+-- ---- R11.1: frames are kept, and sent again as they were
 
 -- a packet's frame is kept behind the slots, which may be lent longer than is needed
 abbrev pub keptAt : Link → ℕ → ℕ
@@ -76,9 +76,8 @@ late = record {
 
 -- ---- what each breaks
 
--- "The fourth also breaks demand 3's second half, and so does the third where it claims to have taken a packet.": `pretends-on`, `claims`.
--- "Delivering the frame after a gap.": `skips`. "Comparing deadline and clock by size.": `by-size`, of a deadline that does not wrap, and
--- `by-size-wrapped`, of one that does. `owes`: look never sends the ACK that is owed.
+-- R13.4: the fourth wrong end of R13.3 is `pretends-on`, the third, where it claims a packet, `claims`. R11.5: `skips`. R11.2: `by-size`, of a
+-- deadline that does not wrap, and `by-size-wrapped`, of one that does. `owes`: look never sends the ACK that is owed.
 pub record Refuted : Type 0 where
   pub repeats : FirstSoMany (withSubmit (repeating (dataFrame (settings .format) 0 3 loanA))) → ⊥
   pub invents : FirstSoMany (withTake (inventing 1 0)) → ⊥
@@ -126,7 +125,7 @@ pub record LineKept : Type 0 where
 
 -- ---- what demand 3 does not see, and the calls' equations do
 
--- every call refuses, by whatever number but 0. "The first takes none, so demand 2 alone shuts it out."
+-- R13.4, the first wrong end: every call refuses, by whatever number but 0, and no packet is taken
 abbrev pub refusingAll : ℕ → Calls Link
 refusingAll answer =
     linkOf (refusing answer) (refusing answer) (lookBut (refuse answer)) (refuse answer acknowledgedNow) (refuse answer resynchronised)
@@ -141,7 +140,7 @@ chatting l slots frame ms = looking (concluded (sendsAck l frame) done 0 slots)
 abbrev pub hasty : List Step
 hasty = desk (submits-at 4294967276 loanA) ∷ desk (looks-at 4294967276) ∷ desk (looks-at 4294967276) ∷ desk (looks-at 4294967276) ∷ []
 
--- `drops`: how many packets were dropped is in no history, so a link that invents it is to demand 3 the true one
+-- `refuses`: R13.4. `drops`: how many packets were dropped is in no history, so a link that invents it is to demand 3 the true one
 pub record Unseen : Type 0 where
   pub refuses : (answer : ℕ) → (answer ≡ done → ⊥) → Demand3 (refusingAll answer)
   pub chats : FirstSoMany (withLook chatting) × Within24 (withLook chatting)

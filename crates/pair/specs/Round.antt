@@ -1,6 +1,4 @@
--- Document 01, "Sending": "A timer round, with one clock for both ends and every lent buffer long enough: carry frames, the two queues in any
--- mixture, until both are empty; if no timer is due, move the clock to the first moment one is (if none runs, it stays); then look at the
--- clock at each end until it sends nothing."
+-- A timer round: R6.5.
 use Prim.Native.Nat.{ℕ, suc, _+_, _<_, _≤_}
 use mathlib.Core.Bool.{Bool, true, false, _||_}
 use mathlib.Core.List.{List, [], _∷_}
@@ -12,11 +10,11 @@ use Rattle.state.specs.Bounds.{frameNeed}
 use Rattle.state.specs.Timer.{onward, packetDue, acknowledgeDue}
 use Rattle.pair.specs.System.{Calls, System, swap, seenBoth, takes, lookOf, looks}
 
--- "every lent buffer long enough": the slots are, from the start
+-- R6.5: what is lent is long enough. Here the frame buffer; the slots are, from the start
 abbrev pub Enough : {State : Type 0} → Calls State → System State → List ℕ → Type 0
 Enough calls S frame = frameNeed (calls .seen (S .here .state) .settings) ≤ length frame
 
--- "carry frames, the two queues in any mixture"
+-- R6.5, first: one frame is carried; and any number, of the two queues in any mixture
 pub data Carried {State : Type 0} (calls : Calls State) (ms : ℕ) (S : System State) : System State → Type 0 where
   head : (frame received : List ℕ) (rest : List (List ℕ)) → Enough calls S frame → S .here .queue ≡ received ∷ rest → Carried calls ms S (takes calls S frame ms received rest)
 
@@ -31,7 +29,7 @@ carriedIn (none S) = 0
 carriedIn (here S T U k rest) = suc (carriedIn rest)
 carriedIn (there S T U k rest) = suc (carriedIn rest)
 
--- ---- the clock: it goes by document 01's timers, as the states are seen, whatever the link itself does
+-- ---- the clock: it goes by the timers of R6.1, as the states are seen, whatever the link itself does
 
 -- a packet's timer runs while it waits. A lost end's timers count too, and once one is due the clock stays: what is said of rounds asks that no
 -- link be lost.
@@ -47,21 +45,21 @@ someRuns S = runs (S .here .state) || runs (S .there .state)
 abbrev pub someDue : System Link → ℕ → Bool
 someDue S ms = dueAt (S .here .state) ms || dueAt (S .there .state) ms
 
--- how far the clock is moved: to the first moment at which a timer is due, which is now if one is due now
+-- R6.5, then: how far the clock is moved: to the first moment at which a timer is due, which is now if one is due now
 pub data Passes (S : System Link) (ms : ℕ) : ℕ → Type 0 where
   stays : someRuns S ≡ false → Passes S ms 0
   moves : (passed : ℕ) → someDue S (onward ms passed) ≡ true → ((k : ℕ) → k < passed → someDue S (onward ms k) ≡ false) → Passes S ms passed
 
 -- ---- looking
 
--- "look at the clock at each end until it sends nothing"
+-- R6.5, last: the looks at one end
 pub data Looks {State : Type 0} (calls : Calls State) (ms : ℕ) : System State → System State → Type 0 where
   nothing : (S : System State) (frame : List ℕ) → Enough calls S frame → lookOf calls S frame ms .told .sent ≡ 0 → Looks calls ms S (looks calls S frame ms)
   sends-on : (S T : System State) (frame : List ℕ) → Enough calls S frame → (lookOf calls S frame ms .told .sent ≡ 0 → ⊥) → Looks calls ms (looks calls S frame ms) T → Looks calls ms S T
 
 -- ---- rounds
 
--- one round from a clock on, and by how many milliseconds it moves the clock; either end may be the first to be looked at (looks that take turns
+-- R6.5: one round from a clock on, and by how many milliseconds it moves the clock; either end may be the first to be looked at (looks that take turns
 -- leave the same: Mixture.antt)
 pub data Round {State : Type 0} (calls : Calls State) (ms : ℕ) : System State → ℕ → System State → Type 0 where
   round : (S T U W : System State) (passed : ℕ) → Carries calls ms S T → T .here .queue ≡ [] → T .there .queue ≡ [] → Passes (seenBoth calls T) ms passed

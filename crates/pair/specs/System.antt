@@ -1,7 +1,4 @@
--- Two ends of any link and two queues, for demand 3, the customer's third demand. What is quoted after `demand 3:` is in its words and not in
--- document 01's.
--- demand 3: "Start two ends fresh with equal settings. Join them by a queue each way that is empty at first, keeps order, and may lose a frame or
--- damage it so that its size or checksum is refused."
+-- Two ends of any link, two queues, and all that can happen to them, for the third demand: R14.3.
 use Prim.Native.Nat.{ℕ, _<_, _≤_}
 use mathlib.Core.Bool.{true, cond}
 use mathlib.Core.List.{List, [], _∷_, _++_}
@@ -27,7 +24,7 @@ pub record Told (State : Type 0) : Type 0 where
   pub delivered : ℕ
   pub answer : ℕ
 
--- a link: states of any type, and each seen as document 01's; the state that start gives with answer 0; and the calls, each of a state, the
+-- a link: states of any type, and each seen as one of R5.1; the state that start gives with answer 0; and the calls, each of a state, the
 -- slots, the frame buffer, and what else it is given. The demand is said of any such link: of the one that the contracts are about
 -- (TrueCalls.antt) it is proved, of wrong ones (FalseCalls.antt) it is refuted. Who shows it of another link must show, too, that `seen` is what
 -- its states mean and `fresh` what its start gives: seen as always lost, any link would meet the second half.
@@ -63,7 +60,7 @@ swap S = record { here = S .there; there = S .here }
 abbrev pub requeued : {State : Type 0} → Side State → List (List ℕ) → Side State
 requeued x queue = record { state = x .state; slots = x .slots; queue = queue; taken = x .taken; delivered = x .delivered }
 
--- the same two ends, their states seen as document 01's
+-- the same two ends, their states seen as those of R5.1
 abbrev pub seenSide : {State : Type 0} → Calls State → Side State → Side Link
 seenSide calls x = record { state = calls .seen (x .state); slots = x .slots; queue = x .queue; taken = x .taken; delivered = x .delivered }
 
@@ -88,12 +85,12 @@ takenBy a packet = cond (eqb (a .told .answer) done) (packet ∷ []) []
 abbrev pub leftBy : {State : Type 0} → After (Told State) → List ℕ → List (List ℕ) → List (List ℕ)
 leftBy a received rest = cond (eqb (a .told .answer) shortBuffer) (received ∷ rest) rest
 
--- demand 3: "keeps order": what is sent goes behind what is on its way
+-- R14.3: what is sent goes behind what is on its way
 abbrev pub queued : List (List ℕ) → List (List ℕ) → List (List ℕ)
 queued queue sent = queue ++ sent
 
--- demand 3: "each call gets the state the last one left and the same slots, in which only the link writes": the system after the call, with its
--- queue and with what it took and delivered
+-- R14.3: the system after a call, with the state and the slots that it left, its queue, and what it took and delivered; no move but a call
+-- changes a state or a slot
 abbrev pub called : {State : Type 0} → System State → After (Told State) → List (List ℕ) → List (List ℕ) → List (List ℕ) → System State
 called S a queue taken delivered = record {
   here = record {
@@ -134,7 +131,7 @@ resetOf calls S frame = calls .resynchronise (S .here .state) (S .here .slots) f
 
 -- ---- the line
 
--- a frame of the queue is lost, or damaged to any bytes that step 1 refuses
+-- R14.3: a frame of the queue is lost, or damaged to any bytes that step 1 refuses
 pub data Harm (format : Format) : List (List ℕ) → List (List ℕ) → Type 0 where
   lost : (x : List ℕ) (q : List (List ℕ)) → Harm format (x ∷ q) q
   damaged : (x y : List ℕ) (q : List (List ℕ)) → (heard format y ≡ Size) ⊎ (heard format y ≡ Sum) → Harm format (x ∷ q) (y ∷ q)
@@ -145,7 +142,7 @@ withQueue S queue = record { here = requeued (S .here) queue; there = S .there }
 
 -- ---- moves
 
--- "the present millisecond as a 32-bit number"
+-- R1.3: a millisecond has 32 bits
 abbrev pub IsClock : ℕ → Type 0
 IsClock ms = ms < 4294967296
 
@@ -165,7 +162,7 @@ pub data Move {State : Type 0} (calls : Calls State) (S : System State) : System
 abbrev pub freshSide : {State : Type 0} → Calls State → Settings → List ℕ → Side State
 freshSide calls s slots = record { state = calls .fresh s; slots = slots; queue = []; taken = []; delivered = [] }
 
--- demand 3: "From any such moment": two ends started fresh with equal settings and slots of any bytes, and any moves at either end since
+-- R14.3, and where R14.4 begins: two ends started fresh with equal settings and slots of any bytes, and any moves at either end since
 pub data Moment {State : Type 0} (calls : Calls State) (s : Settings) : System State → Type 0 where
   start : (slots slots2 : List ℕ) → inRange s ≡ true → slotsNeed s ≤ length slots → slotsNeed s ≤ length slots2
       → Moment calls s (record { here = freshSide calls s slots; there = freshSide calls s slots2 })

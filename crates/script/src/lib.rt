@@ -127,7 +127,8 @@ fn all_lines(input: &mut Input, slots: &mut Slots, room: &mut Room, s: Session) 
     }
 }
 
-// Reads a script on standard input and prints what its lines give; worked: each line again, with what it gives behind an arrow.
+// Reads a script on standard input and prints what its lines give; worked (R10.13): each line again, with what it
+// gives behind an arrow.
 pub fn run(is_worked: bool) {
     let mut input = [0u8; INPUT];
     let mut slots = [0u8; BUFFER];
