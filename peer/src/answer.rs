@@ -1,4 +1,4 @@
-//! Document 01, "Numbers returned": one name for each number.
+//! One name for each number returned: R8.
 
 pub const DONE: u8 = 0;
 pub const OUT_OF_RANGE: u8 = 1;

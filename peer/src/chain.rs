@@ -1,4 +1,4 @@
-//! Chaining: messages (APDUs) cut into packets and joined again. Document 01, "Chaining".
+//! Chaining: messages (APDUs) cut into packets and joined again: R7.
 
 use crate::answer;
 
@@ -15,7 +15,7 @@ const FIRST: u8 = 0b001;
 const MIDDLE: u8 = 0b010;
 const LAST: u8 = 0b100;
 
-/// The one-byte packet 07 of section 5.2, told as a number with answer 10.
+/// R7.6: told as a number with answer 10.
 const FAULT_PACKET: u8 = 0b111;
 
 fn limit_in_range(limit: u16) -> bool {

@@ -1,9 +1,9 @@
-//! The frame checksum of document 01, "Frame and checksum".
+//! The frame checksum: R3.3.
 
 /// x^16 + x^12 + x^5 + 1 with its bits reversed, because bytes go in low bit first.
 const POLYNOMIAL: u16 = 0x8408;
 
-/// Document 000, section 8.1.1. It makes the table and the tests hold the table against it.
+/// R3.3, bit by bit. It makes the table and the tests hold the table against it.
 pub const fn bit_rule(mut sum: u16, mut byte: u8) -> u16 {
     let mut bit = 0;
     while bit < 8 {

@@ -8,7 +8,7 @@ use crate::frame::{hear, Data, Heard, OVERHEAD};
 use crate::link::{elapsed, Outcome, State};
 use crate::script::{read, ChainOutcome, Command, Lines, LinkCommand, Reading, Rig, Said};
 
-/// The answers that document 01 gives to each call.
+/// The answers that each call has: R9, R7.5.
 const ANSWERS: [(&str, &[u8]); 8] = [
     ("start", &[0, 1, 2]),
     ("submit", &[0, 1, 2, 3, 4, 5]),
@@ -106,7 +106,7 @@ impl Tally {
         self.answers.values().sum()
     }
 
-    /// What never occurred, and answers that document 01 never gives to their call.
+    /// What never occurred, and answers that their call does not have.
     pub fn faults(&self) -> Vec<String> {
         let given = |call: &str, answer: u8| {
             ANSWERS
@@ -118,7 +118,7 @@ impl Tally {
             match (given(call, answer), count) {
                 (true, 0) => Some(never(format!("{call} {answer}"))),
                 (true, _) => None,
-                (false, _) => Some(format!("not of document 01: {call} {answer}")),
+                (false, _) => Some(format!("not an answer of {call}: {answer}")),
             }
         });
         let events = self.events.iter().filter(|(_, &count)| count == 0);

@@ -32,7 +32,7 @@ pub struct Data {
     pub length: u16,
 }
 
-/// Always an ACK: a NAK is always a control frame (document 01, after step 7).
+/// Always an ACK: a NAK is always a control frame (R4.8).
 #[inline]
 pub fn data_code(number: u8, last_correct: u8) -> u8 {
     (number & 3) << 2 | (last_correct & 3)

@@ -1,4 +1,4 @@
-//! A second, independent implementation of the link that document 01 fixes.
+//! A second, independent implementation of the link of docs/RULES.md.
 //! `checksum`, `frame`, `link` and `chain` are the implementation; the rest
 //! compares it with the rig and searches it for faults.
 

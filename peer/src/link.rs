@@ -18,7 +18,7 @@ pub struct Settings {
 }
 
 impl Settings {
-    /// Document 01, "Numbers that bound it".
+    /// R2.1.
     #[inline]
     pub fn in_range(&self) -> bool {
         (16..=1024).contains(&self.data_reg_len)
@@ -112,8 +112,7 @@ impl State {
         (0..self.waiting).map(move |place| oldest.wrapping_add(place) & 3)
     }
 
-    /// Row 1 of the numbers returned. Repeat counts are checked in both slots, lengths
-    /// only where a packet waits: the row says "a waiting length", but "a repeat count".
+    /// R8.1. Repeat counts are checked in both slots, lengths only where a packet waits.
     #[inline]
     pub fn well_formed(&self) -> bool {
         let limit = self.settings.packet_limit();

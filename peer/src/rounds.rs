@@ -9,7 +9,7 @@ use crate::frame::{self, Heard};
 use crate::link::{elapsed, Outcome, Settings, State};
 use crate::random::Random;
 
-/// Demand 3: "within 24 timer rounds of document 01".
+/// R14.4.
 const ROUNDS_ALLOWED: u32 = 24;
 
 /// Far above what carrying can need: each carried frame is answered by at most one, and
@@ -360,7 +360,7 @@ fn check_delivered(pair: &Pair) -> Result<(), Fault> {
     }
 }
 
-/// Document 01: "A timer round, with one clock for both ends ...". The clock it leaves is told.
+/// R6.5. The clock it leaves is told.
 fn round(pair: &mut Pair, random: &mut Random, clock: u32) -> Result<u32, Fault> {
     carry(pair, random, clock)?;
     let clock = first_due(pair, clock);
@@ -371,7 +371,7 @@ fn round(pair: &mut Pair, random: &mut Random, clock: u32) -> Result<u32, Fault>
     Ok(clock)
 }
 
-/// "then look at the clock at each end until it sends nothing"
+/// R6.5, last.
 fn look_until_silent(pair: &mut Pair, side: usize, clock: u32) -> Result<(), Fault> {
     for _ in 0..LOOK_LIMIT {
         let outcome = pair.ends[side].look(clock);
@@ -383,7 +383,7 @@ fn look_until_silent(pair: &mut Pair, side: usize, clock: u32) -> Result<(), Fau
     Err(Fault::LookingNeverEnds)
 }
 
-/// "carry frames, the two queues in any mixture, until both are empty"
+/// R6.5, first.
 fn carry(pair: &mut Pair, random: &mut Random, clock: u32) -> Result<(), Fault> {
     for _ in 0..CARRY_LIMIT {
         let side = random.index(2);
@@ -398,7 +398,7 @@ fn carry(pair: &mut Pair, random: &mut Random, clock: u32) -> Result<(), Fault> 
     Err(Fault::CarryingNeverEnds)
 }
 
-/// "if no timer is due, move the clock to the first moment one is (if none runs, it stays)"
+/// R6.5, between.
 fn first_due(pair: &Pair, clock: u32) -> u32 {
     let left = pair
         .ends

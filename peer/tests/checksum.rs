@@ -11,7 +11,7 @@ fn by_table(seed: u16, bytes: &[u8]) -> u16 {
     bytes.iter().fold(seed, |sum, &byte| step(sum, byte))
 }
 
-/// Document 000, section 8.1.2.
+/// The short formula of the IFX paper, 8.1.2.
 fn short_formula(seed: u16, byte: u8) -> u16 {
     let h1 = (u32::from(seed) ^ u32::from(byte)) & 0xFF;
     let h2 = h1 & 0x0F;
@@ -51,7 +51,7 @@ fn random_strings_agree() {
     }
 }
 
-/// The table of RFC 1662, which document 000 (8.1.3) names: its first and last 16 entries.
+/// The table of RFC 1662, which the IFX paper (8.1.3) names: its first and last 16 entries.
 #[test]
 fn table_of_rfc_1662() {
     let first = [

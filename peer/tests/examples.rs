@@ -1,4 +1,4 @@
-//! The twelve examples of document 01.
+//! The twelve examples of R10.
 
 mod common;
 

@@ -1,4 +1,4 @@
-//! A received frame: steps 1 to 7 of document 01, each at its bounds.
+//! A received frame: steps 1 to 7, R4.1 to R4.7, each at its bounds.
 
 mod common;
 

@@ -25,8 +25,8 @@ fn assert_right(text: &str) {
     assert_eq!(worked_text(text), text);
 }
 
-/// The examples of document 01, answers of its table of numbers, and every kind of line. The
-/// right sides are written down from the document.
+/// The examples of R10, answers of R8, and every kind of line. The right sides are written
+/// down from the rules.
 const RIGHT: &str = "\
 # examples 1 to 6 -> the checksum, its high byte first here
 
