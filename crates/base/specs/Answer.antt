@@ -1,75 +1,78 @@
--- The numbers that the calls return. Those to 16 have the words of document 01's table, "Numbers returned", which also says what each leaves;
--- those from 17 on are named for calls to come, in our words, and no call returns them yet.
+-- The numbers that the calls return: R8.0 to R8.16, which also say what each leaves; their order R9.1; later ones R9.4. Those from 17 on are
+-- named for calls to come, and no call returns them yet (DECISIONS D89).
 use Prim.Native.Nat.{ℕ}
 use mathlib.Core.Bool.{cond}
 use lib.Dec.{eqb}
 
--- "done"
+-- R8.0: the call was carried out
 abbrev pub done : ℕ
 done = 0
 
--- "a setting out of range, at start or in a state handed in; there also a frame number above 3, .."
+-- R8.1: a setting, or a state, outside its limits
 abbrev pub outOfRange : ℕ
 outOfRange = 1
 
--- "a lent buffer too short"
+-- R8.2: what is lent has too few bytes
 abbrev pub shortBuffer : ℕ
 shortBuffer = 2
 
--- "link lost, now or before"
+-- R8.3: the link is given up
 abbrev pub linkLost : ℕ
 linkLost = 3
 
--- "packet of 0 or more than m bytes"
+-- R8.4: an empty packet, or one beyond m
 abbrev pub packetSize : ℕ
 packetSize = 4
 
--- "WIN_SIZE packets wait"
+-- R8.5: no slot is free for another packet
 abbrev pub windowFull : ℕ
 windowFull = 5
 
--- "frame steps 1, 2, 4": 6 for steps 1 and 4 ..
+-- R8.6: a broken frame, by step 1 or 4
 abbrev pub badFrame : ℕ
 badFrame = 6
 
--- .. and 7 for step 2
+-- R8.7: an FCTR out of use, by step 2
 abbrev pub unusedCode : ℕ
 unusedCode = 7
 
--- "frame step 3"
+-- R8.8: a misshapen control frame, by step 3
 abbrev pub controlSize : ℕ
 controlSize = 8
 
--- "frame step 7"
+-- R8.9: data out of turn, by step 7
 abbrev pub unexpected : ℕ
 unexpected = 9
 
--- "10, 14, 15 | chain fault, too long, fault told by peer"
+-- R8.10: a packet that its chain forbids
 abbrev pub chainFault : ℕ
 chainFault = 10
 
+-- R8.14: the message outgrows 4,096 bytes
 abbrev pub tooLong : ℕ
 tooLong = 14
 
+-- R8.15: the peer says that a chain broke
 abbrev pub faultTold : ℕ
 faultTold = 15
 
--- "11, 12 | channel, secured"
+-- R8.11: a packet of a channel not built
 abbrev pub otherChannel : ℕ
 otherChannel = 11
 
+-- R8.12: a secured packet, which nothing here reads
 abbrev pub securedPacket : ℕ
 securedPacket = 12
 
--- "APDU of 0 or more than 4,096"
+-- R8.13: an empty message, or one beyond 4,096
 abbrev pub messageSize : ℕ
 messageSize = 13
 
--- "i not below the packet count"
+-- R8.16: a packet behind the message's last
 abbrev pub noSuchPacket : ℕ
 noSuchPacket = 16
 
--- ---- a received frame
+-- ---- a received frame; from here on R9.4: until its rule comes, an added number changes nothing
 
 -- a frame of fewer than 5 or more than D bytes
 abbrev pub frameSize : ℕ
@@ -177,6 +180,6 @@ falseLength = 39
 
 -- ---- an order of refusals
 
--- the first of two answers that refuses; every gate is built of it, and quotes its own order
+-- R9.1: the first of two answers that refuses; every gate is built of it, and names its own order
 abbrev pub firstOf : ℕ → ℕ → ℕ
 firstOf a b = cond (eqb a done) b a

@@ -1,5 +1,5 @@
-// The numbers that the calls return, a name for each. specs/Answer.antt has the same names for the contracts. Those from 17 on are named
-// before any call returns them, so that a call that is added later proves nothing below it again.
+// The numbers that the calls return (R8), a name for each. specs/Answer.antt has the same names for the contracts. Those from 17 on are named
+// before any call returns them (R9.4), so that a call that is added later proves nothing below it again.
 pub const DONE: u8 = 0;
 
 pub const OUT_OF_RANGE: u8 = 1;

@@ -1,3 +1,3 @@
-// What every crate above uses: document 01's numbers, and parts of a lent buffer.
+// What every crate above uses: the numbers returned (R8), and parts of a lent buffer.
 pub mod answer;
 pub mod buffer;

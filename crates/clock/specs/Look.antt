@@ -1,4 +1,4 @@
--- look and acknowledge, on every input. Document 01, "Sending".
+-- look and acknowledge, on every input: R1.3, R6.2, R6.3, R6.4.
 use Prim.Native.Nat.{ℕ, _-_}
 use mathlib.Core.Bool.{Bool, true, cond}
 use mathlib.Core.List.{List}
@@ -20,27 +20,27 @@ use Rattle.clock.specs.declared.Looked.{Looked}
 abbrev pub afterOldest : Link → ℕ
 afterOldest l = l .waiting - 1
 
--- "A due packet already repeated TRANS_REPEAT times makes the link lost and nothing is sent." It leaves "lost mark only".
+-- R6.3: the link is lost, and all but the mark stays (R8.3)
 abbrev pub exhausted : Link → List ℕ → List ℕ → After Outcome
 exhausted l slots frame = after (only (withLost l true) linkLost) slots frame
 
--- "serves the oldest waiting packet if due": by a repeat, while TRANS_REPEAT leaves one
+-- R6.3, of the packet of this number: by a repeat, while TRANS_REPEAT leaves one
 abbrev pub served : Link → List ℕ → List ℕ → ℕ → ℕ → After Outcome
 served l slots frame ms number =
     cond (mayRepeat l number) (concluded (sendsRepeat l slots frame ms number) done 0 slots) (exhausted l slots frame)
 
 -- ---- the calls
 
--- a control ACK where one is owed, "else sends nothing"
+-- R6.2, R6.4: a control ACK where one is owed, and none otherwise
 abbrev pub acknowledgedIf : Bool → Link → List ℕ → List ℕ → After Outcome
 acknowledgedIf owed l slots frame = concluded (cond owed (sendsAck l frame) (silent l frame)) done 0 slots
 
--- "Looking at the clock serves the oldest waiting packet if due, else the newer, else the acknowledge timer (a control ACK, timer stopped),
--- else sends nothing."
+-- R6.2, where the oldest packet is not due
 abbrev pub lookedNewer : Link → List ℕ → List ℕ → ℕ → After Outcome
 lookedNewer l slots frame ms =
     cond (packetDue l 0 ms) (served l slots frame ms (sentBefore l 0)) (acknowledgedIf (acknowledgeDue l ms) l slots frame)
 
+-- R6.2, behind the gate
 unfoldable pub lookedOpen : Link → List ℕ → List ℕ → ℕ → After Outcome
 lookedOpen l slots frame ms =
     cond (packetDue l (afterOldest l) ms) (served l slots frame ms (sentBefore l (afterOldest l))) (lookedNewer l slots frame ms)
@@ -49,12 +49,13 @@ lookedOpen l slots frame ms =
 abbrev pub looking : After Outcome → After Looked
 looking a = after (record { outcome = a .told }) (a .slots) (a .frame)
 
+-- R1.3, R6.2: look
 unfoldable pub looked : Link → List ℕ → List ℕ → ℕ → After Looked
 unfolding gateOf lookedOpen
 looked l slots frame ms =
     looking (gated (gateOf l (length slots) (length frame)) l slots frame (lookedOpen l slots frame ms))
 
--- ""Acknowledge now" sends a control ACK if the acknowledge timer runs and stops it, else sends nothing."
+-- R1.3, R6.4: acknowledge; sendsAck (send) stops the timer (R4.11)
 unfoldable pub acknowledgedNow : Link → List ℕ → List ℕ → After Outcome
 unfolding gateOf
 acknowledgedNow l slots frame =

@@ -1,4 +1,4 @@
-// look and acknowledge: what the time does.
+// look and acknowledge: what the time does (R6.2 to R6.4).
 use base::answer;
 use state::Link;
 use state::Outcome;
@@ -24,7 +24,7 @@ fn after_oldest(l: Link) -> u8
     if 1 <= l.waiting { l.waiting - 1 } else { 0 }
 }
 
-// The one place where the link is lost. It is lent what sending needs, though it sends nothing.
+// R6.3: the one place where the link is lost. It is lent what sending needs, though it sends nothing.
 fn lose(l: Link, slots: &[u8], frame: &mut [u8]) -> Outcome
     requires { ⌜ 5 ≤ length (now frame) ⌝ }
     ensures { λ r. ⌜ after r (now (slots .entry)) (now (frame .exit)) ≡ exhausted l (now (slots .entry)) (now (frame .entry)) ⌝ }
@@ -34,7 +34,7 @@ fn lose(l: Link, slots: &[u8], frame: &mut [u8]) -> Outcome
     state::answer_only(k, answer::LINK_LOST)
 }
 
-// Serves the packet that n were sent after.
+// R6.3: serves the packet that n were sent after.
 fn serve(l: Link, slots: &[u8], frame: &mut [u8], ms: u32, n: u8) -> Outcome
     requires { ⌜ (gateOf l (length (now slots)) (length (now frame)) ≡ done) × Usable l (length (now frame)) × (n < l .waiting) ⌝ }
     ensures { λ r. ⌜ after r (now (slots .entry)) (now (frame .exit)) ≡ served l (now (slots .entry)) (now (frame .entry)) ms (sentBefore l n) ⌝ }
@@ -81,7 +81,7 @@ fn look_open(l: Link, slots: &[u8], frame: &mut [u8], ms: u32) -> Outcome
     look_newer(l, slots, frame, ms)
 }
 
-// Serves the first timer that is due, if any.
+// R6.2: serves the first timer that is due, if any.
 pub fn look(l: Link, slots: &[u8], frame: &mut [u8], ms: u32) -> Looked
     ensures { λ r. ⌜ after r (now (slots .entry)) (now (frame .exit)) ≡ looked l (now (slots .entry)) (now (frame .entry)) ms ⌝ }
 {
@@ -94,7 +94,7 @@ pub fn look(l: Link, slots: &[u8], frame: &mut [u8], ms: u32) -> Looked
     Looked { outcome }
 }
 
-// Sends the acknowledgement that is owed, if any.
+// R6.4: sends the acknowledgement that is owed, if any.
 pub fn acknowledge(l: Link, slots: &[u8], frame: &mut [u8], _ms: u32) -> Outcome
     ensures { λ r. ⌜ after r (now (slots .entry)) (now (frame .exit)) ≡ acknowledgedNow l (now (slots .entry)) (now (frame .entry)) ⌝ }
 {

@@ -19,7 +19,7 @@ both-right : (a b : Bool) → T (a && b) → T b
 both-right true b t = t
 both-right false b t = absurd t
 
--- each entry, counted from i, is eight steps of the bit rule from 0
+-- each entry, counted from i, is the step from 0 by its byte
 unfoldable pub tested : ℕ → List ℕ → Bool
 unfolding byteStep
 tested i [] = true

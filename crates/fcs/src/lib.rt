@@ -1,10 +1,10 @@
-// The frame check sequence. Only this crate knows the polynomial, and only its own functions reach the table.
+// The frame check sequence: R3.3, R3.4. Only this crate knows the polynomial, and only its own functions reach the table.
 mod table;
 
 ghost use mathlib.Core.Path.{_≡_};
 ghost use Rattle.fcs.specs.Checksum.{byteStep, checksumOf, Agrees};
 
-// The bit rule of section 8.1.1, eight times.
+// R3.3, one byte: the bit rule eight times, in the form of R12.6.
 pub fn bit_rule(seed: u16, byte: u8) -> u16
     ensures { λ r. ⌜ r ≡ byteStep seed byte ⌝ }
 {
@@ -23,7 +23,7 @@ pub fn bit_rule(seed: u16, byte: u8) -> u16
     crc
 }
 
-// "The work uses a table of 256 entries".
+// R3.4: the same by the table, in one step.
 fn step(table: &[u16; 256], seed: u16, byte: u8) -> u16
     requires { ⌜ Agrees (now table) ⌝ }
     ensures { λ r. ⌜ r ≡ byteStep seed byte ⌝ }
@@ -32,7 +32,7 @@ fn step(table: &[u16; 256], seed: u16, byte: u8) -> u16
     table[i] ^ (seed >> 8)
 }
 
-// The checksum of the bytes.
+// R3.3: the checksum of the bytes.
 pub fn checksum(bytes: &[u8]) -> u16
     ensures { λ r. ⌜ r ≡ checksumOf (now (bytes .entry)) ⌝ }
 {

@@ -1,7 +1,7 @@
-// The table of 256 entries, and its rule.
+// The table and its rule: R3.4, R12.3.
 ghost use Rattle.fcs.specs.Checksum.{Agrees};
 
-// Entry k is eight steps of the bit rule from 0 at the byte k.
+// Entry k is what the bit rule makes of 0 in eight steps by the byte k.
 const TABLE: [u16; 256] = [
     0x0000,
     0x1189,
@@ -261,7 +261,8 @@ const TABLE: [u16; 256] = [
     0x0f78,
 ];
 
-// For whoever takes the table once: a constant that is indexed in a loop is built anew at each turn.
+// R12.3: the proof of this function is the one test. It is for whoever takes the table once: a constant that is indexed in a loop is built
+// anew at each turn.
 pub fn entries() -> [u16; 256]
     ensures { λ r. ⌜ Agrees r ⌝ }
 {

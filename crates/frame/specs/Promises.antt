@@ -1,6 +1,6 @@
--- What is promised of frames beyond the functions' own contracts; proofs/Hearing.antt proves each. The first five serve demand 2, in which
--- frames are to be right at the sending end and the receiving end alike; demand 3 stands on them. The last two serve demand 1: whatever was
--- received, the bytes told are there, and no number is looked up that is none.
+-- What is promised of frames beyond the functions' own contracts: R14.1, R14.2; proofs/Hearing.antt proves each. The first five serve R14.2,
+-- since what one end writes the other must hear; R14.3 and R14.4 stand on them. The last two serve R14.1: whatever was received, the bytes
+-- told are there, and no number is looked up that is none.
 use Prim.Native.Nat.{ℕ, _+_, _-_, _≤_}
 use mathlib.Core.Bool.{false}
 use mathlib.Core.List.{List}
@@ -11,7 +11,8 @@ use Rattle.frame.specs.declared.Heard.the-variants.{Reset, Ack, Nak, Dat
 use Rattle.frame.specs.Bytes.{dataFrame, ackFrame, nakFrame, resetFrame}
 use Rattle.frame.specs.Steps.{heard, packetIn, lenIn, acknowledgedIn}
 
--- Hearing what was written gives back what was meant: for a data frame of every number and acknowledgement and a packet of 1 to D − 5 bytes ..
+-- R14.2: hearing what was written gives back what was meant, for a data frame of every number and acknowledgement and a packet of 1 to
+-- D − 5 bytes ..
 abbrev pub DataHeard : Type 0
 DataHeard =
     (format : Format) (number acknowledged : ℕ) (packet : List ℕ) → number ≤ 3 → acknowledged ≤ 3 → 1 ≤ length packet
@@ -34,10 +35,10 @@ NakHeard = (format : Format) (acknowledged : ℕ) → acknowledged ≤ 3 → 5 �
 abbrev pub ResetHeard : Type 0
 ResetHeard = (format : Format) → 5 ≤ format .d → heard format (resetFrame format) ≡ Reset
 
--- The packet of a data frame that is heard lies in the frame, before FCS.
+-- R14.1: the packet of a data frame that is heard lies in the frame, before FCS.
 abbrev pub LengthHeard : Type 0
 LengthHeard = (format : Format) (frame : List ℕ) → lenIn (heard format frame) ≤ length frame - 5
 
--- An acknowledgement that is heard names a frame number, 0 to 3.
+-- R14.1: an acknowledgement that is heard names a frame number, 0 to 3.
 abbrev pub NumberHeard : Type 0
 NumberHeard = (format : Format) (frame : List ℕ) → acknowledgedIn (heard format frame) ≤ 3

@@ -1,4 +1,5 @@
--- A received frame, steps 1 to 4: what the bytes are, with the format given and no state. Document 01, "A received frame, in this order".
+-- A received frame, steps 1 to 4: what the bytes are, with the format given and no state. R3.1, R3.2, R3.5, R3.6, R4.1 to R4.4, with R2.5 and
+-- R12.8; and where the packet of R4.7 is.
 use Prim.Native.Nat.{ℕ, _+_, _-_, _*_, _/_, _%_}
 use mathlib.Core.Bool.{Bool, true, false, cond, not, _&&_, _||_}
 use mathlib.Core.List.{List, [], _∷_}
@@ -14,11 +15,11 @@ use Rattle.frame.specs.Bytes.{fcsBytes}
 
 -- ---- the parts of a frame
 
--- "FCTR, LEN (two bytes, high first), LEN packet bytes, FCS": it stands first
+-- R3.1, FCTR
 abbrev pub fctrOf : List ℕ → ℕ
 fctrOf frame = getD frame 0 0
 
--- "LEN (two bytes, high first)"
+-- R3.1, LEN
 abbrev pub lenOf : List ℕ → ℕ
 lenOf frame = getD frame 1 0 * 256 + getD frame 2 0
 
@@ -29,46 +30,45 @@ sameBytes [] (b ∷ t) = false
 sameBytes (a ∷ s) [] = false
 sameBytes (a ∷ s) (b ∷ t) = eqb a b && sameBytes s t
 
--- the two bytes from index `at` on are FCS of all before them
+-- R3.2: whether the two bytes from index `at` on are FCS of all before them
 unfoldable pub fcsAt : Format → ℕ → List ℕ → Bool
 fcsAt format at frame = sameBytes (take 2 (drop at frame)) (fcsBytes format (checksumOf (take at frame)))
 
 -- ---- the parts of FCTR
 
--- "bit 7 control"
+-- R3.5, bit 7
 abbrev pub isControl : ℕ → Bool
 isControl fctr = leb 0x80 fctr
 
--- "bits 6:5 are 00 ACK, 01 NAK, 10 reset"
+-- R3.5, bits 6 and 5
 abbrev pub isNak : ℕ → Bool
 isNak fctr = eqb (fctr / 32 % 4) 1
 
 abbrev pub isReset : ℕ → Bool
 isReset fctr = eqb (fctr / 32 % 4) 2
 
--- "bits 3:2 frame number; bits 1:0 the acknowledged number"
+-- R3.5, the two numbers
 abbrev pub numberOf : ℕ → ℕ
 numberOf fctr = fctr / 4 % 4
 
 abbrev pub acknowledgedOf : ℕ → ℕ
 acknowledgedOf fctr = fctr % 4
 
--- "Used codes are those of Table 8-1: 0x00–0x0F, 0x20–0x2F, 0x80–0x83, 0xA0–0xA3, 0xC0." "Section 1.3 would ignore bit 4;
--- Tables 3-2 and 8-1 decide that a set bit is refused."
+-- R3.6: none of these has bit 4 set
 unfoldable pub used : ℕ → Bool
 used fctr =
     within 0x00 fctr 0x0F || within 0x20 fctr 0x2F || within 0x80 fctr 0x83 || within 0xA0 fctr 0xA3 || eqb fctr 0xC0
 
 -- ---- steps 1 to 4
 
--- what an accepted frame says
+-- what an accepted frame says, by R3.5: its FCTR and LEN read
 unfoldable pub accepted : ℕ → ℕ → Heard
 accepted fctr len =
     cond (isControl fctr)
     (cond (isReset fctr) Reset (cond (isNak fctr) (Nak (acknowledgedOf fctr)) (Ack (acknowledgedOf fctr))))
     (Data (numberOf fctr) (isNak fctr) (acknowledgedOf fctr) len)
 
--- "2. Unused FCTR". "3. Control frame whose size is not 5 or whose LEN is not 0". "4. Data frame with LEN 0 or LEN different from size − 5".
+-- R4.2, R4.3, R4.4, in this order, of FCTR, LEN and the frame's size
 unfoldable pub judged : ℕ → ℕ → ℕ → Heard
 unfolding used accepted
 judged fctr len size =
@@ -76,16 +76,15 @@ judged fctr len size =
     (cond (isControl fctr && (not (eqb size 5) || not (eqb len 0))) ControlSize
     (cond (not (isControl fctr) && (eqb len 0 || not (eqb len (size - 5)))) Length (accepted fctr len)))
 
--- "1. Fewer than 5 bytes, more than D, or a wrong checksum"
+-- R4.1, of any bytes whatever (R2.5): the size is looked at first. Then the other steps.
 unfoldable pub heard : Format → List ℕ → Heard
 unfolding fcsAt judged
 heard format frame =
     cond (ltb (length frame) 5 || ltb (format .d) (length frame)) Size
     (cond (not (fcsAt format (length frame - 2) frame)) Sum (judged (fctrOf frame) (lenOf frame) (length frame)))
 
--- "When an answer is an enum, a definition gives this paper's number and values for each case of that enum. The promises use that definition."
--- The numbers: 6 for steps 1 and 4, 7 for step 2, 8 for step 3; 0 for a control frame that passes, and for a data frame 0, or 9 by step 7,
--- which needs the state. The values are the cases' own, read off FCTR and LEN by the definitions above.
+-- R12.8. The numbers: 6 for steps 1 and 4, 7 for step 2, 8 for step 3; 0 for a control frame that passes, and for a data frame 0, or 9 by
+-- step 7, which needs the state. The values are the cases' own, read off FCTR and LEN by the definitions above.
 abbrev pub refusalOf : Heard → ℕ
 refusalOf Size = badFrame
 refusalOf Sum = badFrame
@@ -99,11 +98,11 @@ refusalOf (Data number nak acknowledged len) = done
 
 -- ---- what a frame that was heard brings
 
--- "the packet is the frame from byte 3, LEN bytes"
+-- R4.7: the packet, where it stands
 abbrev pub packetIn : List ℕ → ℕ → List ℕ
 packetIn frame len = take len (drop 3 frame)
 
--- LEN of a data frame, 0 for none
+-- LEN of a data frame, 0 of what is none
 abbrev pub lenIn : Heard → ℕ
 lenIn Size = 0
 lenIn Sum = 0
@@ -115,7 +114,7 @@ lenIn (Ack acknowledged) = 0
 lenIn (Nak acknowledged) = 0
 lenIn (Data number nak acknowledged len) = len
 
--- the acknowledged number that a frame brings, 0 for none
+-- the acknowledged number that a frame brings (R4.6), 0 where it brings none
 abbrev pub acknowledgedIn : Heard → ℕ
 acknowledgedIn Size = 0
 acknowledgedIn Sum = 0

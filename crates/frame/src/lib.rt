@@ -1,4 +1,4 @@
-// A frame's bytes, heard and written. Only this crate knows the place of a byte and the order of FCS.
+// A frame's bytes, heard and written: R3, R4.1 to R4.4. Only this crate knows the place of a byte and the order of FCS.
 use base::answer;
 use base::buffer;
 ghost use mathlib.Core.Path.{_≡_};
@@ -15,7 +15,7 @@ pub struct Format {
     pub d: u16,
 }
 
-// What steps 1 to 4 make of a received frame. Each refusal has a case of its own, also where two have one number.
+// What steps 1 to 4 make of a received frame. Each refusal has a case of its own, also where two have one number (R12.8).
 pub enum Heard {
     Size,
     Sum,
@@ -116,7 +116,7 @@ fn judge(fctr: u8, len: usize, size: usize) -> Heard
     accept(fctr, len)
 }
 
-// Steps 1 to 4. The checksum is not run over a frame longer than D.
+// Steps 1 to 4. The checksum is not run over a frame longer than D (R4.1).
 pub fn hear(format: Format, frame: &[u8]) -> Heard
     ensures { λ r. ⌜ r ≡ heard format (now (frame .entry)) ⌝ }
 {
@@ -168,7 +168,7 @@ fn put_head(frame: &mut [u8], fctr: u8, len: u16)
     frame[2] = (len % 256) as u8;
 }
 
-// "FCS covers all before it".
+// R3.2: writes FCS behind the bytes that it covers, and gives the length of the whole.
 fn seal(format: Format, frame: &mut [u8], covered: usize) -> u16
     requires { ⌜ (covered + 2 ≤ length (now frame)) × (covered + 2 < 65536) ⌝ }
     ensures { λ r. ⌜ Written (sealed format (take covered (now (frame .entry)))) (now (frame .entry)) (now (frame .exit)) r ⌝ }
@@ -228,7 +228,7 @@ pub fn write_nak(format: Format, frame: &mut [u8], acknowledged: u8) -> u16
     write_control(format, frame, 0xA0 + acknowledged)
 }
 
-// Writes the reset frame, and gives its length.
+// R12.4: writes the reset frame, a fixed string, and gives its length.
 pub fn write_reset(format: Format, frame: &mut [u8]) -> u16
     requires { ⌜ 5 ≤ length (now frame) ⌝ }
     ensures { λ r. ⌜ Written (resetFrame format) (now (frame .entry)) (now (frame .exit)) r ⌝ }

@@ -1,15 +1,15 @@
--- Document 01, "Numbers that bound it".
+-- Settings and sizes: R2.1, R2.2, R2.4.
 use Prim.Native.Nat.{ℕ, _-_, _*_}
 use mathlib.Core.Bool.{Bool, _&&_}
 use lib.Dec.{leb, ltb}
 use Rattle.base.specs.Range.{within}
 use Rattle.state.specs.declared.Settings.{Settings}
 
--- "packet limit m = D − 5, PCTR included". "Section 3.1 of 000 allows D bytes of packet data; Table 2-1's D − 5 decides."
+-- R2.2: m
 abbrev pub limitOf : Settings → ℕ
 limitOf s = s .format .d - 5
 
--- DATA_REG_LEN "16 to 1,024"; WIN_SIZE "1 to 2"; TRANS_TIMEOUT "2 to 1,000"; acknowledge timeout "1 to TRANS_TIMEOUT − 1"; TRANS_REPEAT "1 to 4"
+-- R2.1, row by row. That the acknowledge timeout is below TRANS_TIMEOUT belongs to its range (DECISIONS D18).
 unfoldable pub inRange : Settings → Bool
 inRange s =
     within 16 (s .format .d) 1024
@@ -18,7 +18,7 @@ inRange s =
     && (leb 1 (s .acktimeout) && ltb (s .acktimeout) (s .transtimeout))
     && within 1 (s .repeats) 4
 
--- "The slot buffer needs WIN_SIZE × m bytes, the frame buffer D"
+-- R2.4, the slot buffer and the frame buffer
 abbrev pub slotsNeed : Settings → ℕ
 slotsNeed s = s .window * limitOf s
 

@@ -1,4 +1,4 @@
--- A state with one field set and the others as they were: read only the names. No other crate writes a state out field by field.
+-- A state (R5.1) with one field set and the others as they were: read only the names. No other crate writes a state out field by field.
 use Prim.Native.Nat.{ℕ}
 use mathlib.Core.Bool.{Bool}
 use mathlib.Core.List.{List}

@@ -1,5 +1,5 @@
--- What the tests of well-formedness and the gate say, as plain inequalities, for the proofs of all crates above: of Sound alone something is
--- promised (link). proofs/Facts.antt shows that the tests give these, and of InRange and Formed the way back.
+-- What the tests of well-formedness and the gate say, R2.1, R8.1, R9.1, as plain inequalities, for the proofs of all crates above: of Sound
+-- alone something is promised (link). proofs/Facts.antt shows that the tests give these, and of InRange and Formed the way back.
 use Prim.Native.Nat.{ℕ, _<_, _≤_}
 use mathlib.Core.Bool.{true, false}
 use mathlib.Core.Path.{_≡_}
@@ -9,6 +9,7 @@ use Rattle.state.specs.declared.Link.{Link}
 use Rattle.state.specs.Bounds.{limitOf, slotsNeed, frameNeed}
 use Rattle.state.specs.State.{sentBefore, lengthOf, wellFormed}
 
+-- R2.1
 pub record InRange (s : Settings) : Type 0 where
   pub d-lo : 16 ≤ s .format .d
   pub d-hi : s .format .d ≤ 1024
@@ -21,11 +22,12 @@ pub record InRange (s : Settings) : Type 0 where
   pub repeats-lo : 1 ≤ s .repeats
   pub repeats-hi : s .repeats ≤ 4
 
--- the packet that n were sent after has a length of 1 to m
+-- R8.1: the packet that n were sent after has a length of 1 to m
 pub record LengthOk (l : Link) (n : ℕ) : Type 0 where
   pub least : 1 ≤ lengthOf l (sentBefore l n)
   pub most : lengthOf l (sentBefore l n) ≤ limitOf (l .settings)
 
+-- R8.1, of a state
 pub record Formed (l : Link) : Type 0 where
   pub settings : InRange (l .settings)
   pub next : l .next ≤ 3
@@ -34,11 +36,13 @@ pub record Formed (l : Link) : Type 0 where
   pub lengths : (n : ℕ) → n < l .waiting → LengthOk l n
   pub repeated : (i : ℕ) → i < 2 → getD (l .repeated) i 0 ≤ l .settings .repeats
 
+-- R9.1: neither 1 nor 2 is given
 pub record Entered (l : Link) (slots frame : ℕ) : Type 0 where
   pub formed : Formed l
   pub slots-room : slotsNeed (l .settings) ≤ slots
   pub frame-room : frameNeed (l .settings) ≤ frame
 
+-- R9.1: nor is 3
 pub record Open (l : Link) (slots frame : ℕ) : Type 0 where
   pub entered : Entered l slots frame
   pub alive : l .lost ≡ false

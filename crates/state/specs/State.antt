@@ -1,4 +1,4 @@
--- What an end keeps. Document 01, "Sending", and row 1 of "Numbers returned".
+-- What an end keeps, when it is well formed, when it is fresh: R5.1, R5.2, R5.4, R8.1.
 use Prim.Native.Nat.{ℕ, _+_, _-_, _%_}
 use mathlib.Core.Bool.{Bool, false, _&&_, _||_}
 use mathlib.Core.List.{[], _∷_}
@@ -11,31 +11,30 @@ use Rattle.state.specs.Bounds.{limitOf, inRange}
 
 -- ---- numbers
 
--- "holds 3 as last correct" where 0 is expected: a delivery moves both and nothing moves one alone, so it is no field that could disagree
--- (DECISIONS D8)
+-- R5.1: a delivery moves it and the expected number, and nothing moves one alone, so it is no field that could disagree (DECISIONS D8)
 abbrev pub lastCorrect : Link → ℕ
 lastCorrect l = (l .expected + 3) % 4
 
--- how many packets have been sent after this number: next − 1 − number modulo 4, with 8 added so that − does not stop at 0. Packets are freed
--- from the oldest on, so next and how many wait settle which do, and no third number could contradict them (DECISIONS D9).
+-- R5.1: how many packets have been sent after this number: next − 1 − number modulo 4, with 8 added so that − does not stop at 0. Packets are
+-- freed from the oldest on, so next and how many wait settle which do, and no third number could contradict them (DECISIONS D9).
 abbrev pub behind : Link → ℕ → ℕ
 behind l number = (l .next + 7 - number) % 4
 
--- freed from the oldest on, so it is the newest that wait
+-- R5.1: freed from the oldest on, so it is the newest that wait
 abbrev pub waits : Link → ℕ → Bool
 waits l number = ltb (behind l number) (l .waiting)
 
--- the number that n packets have been sent after, so 0 gives the newest: next − 1 − n modulo 4, with 4 added so that − does not stop at 0
+-- R5.1: the number that n packets have been sent after, so 0 gives the newest: next − 1 − n modulo 4, with 4 added so that − does not stop at 0
 abbrev pub sentBefore : Link → ℕ → ℕ
 sentBefore l n = (l .next + 3 - n) % 4
 
 -- ---- slots
 
--- "the slot numbered (frame number modulo WIN_SIZE)"
+-- R5.4: the slot of the packet of this number
 abbrev pub slotOf : Link → ℕ → ℕ
 slotOf l number = number % l .settings .window
 
--- "For each of the two slots the state keeps a start time and a repeat count, beside the packet's length."
+-- R5.1: what is kept in the slot of the packet of this number
 abbrev pub lengthOf : Link → ℕ → ℕ
 lengthOf l number = getD (l .lengths) (slotOf l number) 0
 
@@ -47,12 +46,12 @@ repeatedOf l number = getD (l .repeated) (slotOf l number) 0
 
 -- ---- well formed
 
--- "a waiting length outside 1 to m"
+-- R8.1, one length. Only those of waiting packets are asked for (DECISIONS D17).
 abbrev pub lengthOk : Link → ℕ → Bool
 lengthOk l number = within 1 (lengthOf l number) (limitOf (l .settings))
 
--- row 1: "a setting out of range, .. in a state handed in; there also a frame number above 3, more than WIN_SIZE waiting, a waiting length
--- outside 1 to m, a repeat count above TRANS_REPEAT". The newest packet waits unless fewer than one do, the one before unless fewer than two.
+-- R8.1, all but the settings. The newest packet waits unless fewer than one do, the one before unless fewer than two; both counts of repeats
+-- are looked at, whatever waits (DECISIONS D16).
 unfoldable pub numbersOk : Link → Bool
 numbersOk l =
     leb (l .next) 3
@@ -63,13 +62,14 @@ numbersOk l =
     && leb (getD (l .repeated) 0 0) (l .settings .repeats)
     && leb (getD (l .repeated) 1 0) (l .settings .repeats)
 
+-- R8.1, of a state
 unfoldable pub wellFormed : Link → Bool
 unfolding inRange numbersOk
 wellFormed l = inRange (l .settings) && numbersOk l
 
 -- ---- fresh
 
--- "A fresh end sends number 0 first, expects 0, and holds 3 as last correct." "a fresh end has zeros there, no timer running and no NAK mark"
+-- R5.2
 unfoldable pub freshOf : Settings → Link
 freshOf s = record {
   settings = s;
@@ -85,6 +85,6 @@ freshOf s = record {
   lost = false;
 }
 
--- "the end becomes fresh with its settings kept"
+-- R5.2, with the settings that this end has (R4.5)
 abbrev pub renewed : Link → Link
 renewed l = freshOf (l .settings)

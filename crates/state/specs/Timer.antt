@@ -1,4 +1,4 @@
--- Document 01, "Sending": "Elapsed time is the difference of two clock values modulo 2^32; a timer is due when it is at least its timeout."
+-- Time that has passed, and timers: R6.1, R6.2.
 use Prim.Native.Nat.{ℕ, _+_, _-_, _%_}
 use mathlib.Core.Bool.{Bool, cond, _&&_}
 use lib.Dec.{eqb, ltb}
@@ -8,32 +8,33 @@ use Rattle.state.specs.State.{sentBefore, startOf, wellFormed}
 
 -- ---- one timer
 
--- "Easy to get wrong": "Comparing deadline and clock by size.": there is no deadline here, and a wrap between start and now does not matter
+-- R6.1: there is no deadline here (R11.2), and a wrap between start and now does not matter
 abbrev pub elapsed : ℕ → ℕ → ℕ
 elapsed start ms = (ms + 4294967296 - start) % 4294967296
 
--- the milliseconds that are left of a timeout
+-- R6.1: the milliseconds that are left of a timeout
 abbrev pub left : ℕ → ℕ → ℕ → ℕ
 left timeout start ms = timeout - elapsed start ms
 
--- "at least its timeout": the difference stops at 0, so none left is the same as elapsed being at least the timeout
+-- R6.1: the difference stops at 0, so none left is the same as elapsed being at least the timeout
 abbrev pub due : ℕ → ℕ → ℕ → Bool
 due timeout start ms = eqb (left timeout start ms) 0
 
--- the clock so many milliseconds on: it wraps at 2^32. No call moves a clock; this is for the timer rounds (pair).
+-- the clock so many milliseconds on: it wraps at 2^32. No call moves a clock; this is for the timer rounds (R6.5, pair).
 abbrev pub onward : ℕ → ℕ → ℕ
 onward ms passed = (ms + passed) % 4294967296
 
 -- ---- the timers of an end
 
--- the timer of the packet that n were sent after: it runs while the packet waits
+-- R6.2: the timer of the packet that n were sent after; it runs while the packet waits (R5.1)
 abbrev pub packetDue : Link → ℕ → ℕ → Bool
 packetDue l n ms = ltb n (l .waiting) && due (l .settings .transtimeout) (startOf l (sentBefore l n)) ms
 
+-- R6.2: the acknowledge timer
 abbrev pub acknowledgeDue : Link → ℕ → Bool
 acknowledgeDue l ms = l .acking && due (l .settings .acktimeout) (l .ackstart) ms
 
--- ---- how long none of them is due: for who waits, and no rule of document 01's
+-- ---- how long none of them is due: for who waits, and no rule's (DECISIONS D91)
 
 -- no timer runs. No timeout comes near it.
 abbrev pub noTimer : ℕ

@@ -1,4 +1,5 @@
-// What an end keeps: its settings and its state, when they are well formed, the gate 1, 2, 3, fresh, timers; start and resynchronise.
+// What an end keeps (R2, R5): its settings and its state, when they are well formed, the gate 1, 2, 3 (R9.1), fresh, timers (R6); start and
+// resynchronise.
 use base::answer;
 use frame::Format;
 ghost use mathlib.Core.Path.{_≡_};
@@ -11,6 +12,7 @@ ghost use Rattle.base.specs.Range.{leastOf};
 ghost use Rattle.state.specs.Timer.{elapsed, left, due, packetDue, acknowledgeDue, packetLeft, acknowledgeLeft, timeLeft};
 ghost use Rattle.state.specs.Calls.{zeros, started, becameFresh, resetSent, resynchronised};
 
+// R2.1
 pub struct Settings {
     pub format: Format,
     pub transtimeout: u16,
@@ -19,6 +21,7 @@ pub struct Settings {
     pub repeats: u8,
 }
 
+// R5.1, with its arrays in the form of R12.5
 pub struct Link {
     pub settings: Settings,
     pub starts: [u32; 2],
@@ -33,6 +36,7 @@ pub struct Link {
     pub lost: bool,
 }
 
+// R1.5
 pub struct Outcome {
     pub state: Link,
     pub sent: u16,
@@ -74,7 +78,7 @@ pub fn slot_of(l: Link, number: u8) -> usize
     (number % l.settings.window) as usize
 }
 
-// m, and 0 where D is less than 5.
+// m (R2.2), and 0 where D is less than 5.
 pub fn limit(s: Settings) -> usize
     ensures { λ r. ⌜ r ≡ limitOf s ⌝ }
 {
@@ -165,7 +169,7 @@ fn entry(l: Link, slots: usize, frame: usize) -> u8
     answer::OUT_OF_RANGE
 }
 
-// What every call but start and resynchronise refuses first: 1, 2 or 3, or 0.
+// R9.1: what all calls refuse first, but for start and resynchronise: 1, 2 or 3, or 0.
 pub fn gate(l: Link, slots: usize, frame: usize) -> u8
     ensures { λ r. ⌜ r ≡ gateOf l slots frame ⌝ }
 {
@@ -181,7 +185,7 @@ pub fn gate(l: Link, slots: usize, frame: usize) -> u8
 
 // ---- fresh
 
-// A fresh end of these settings.
+// R5.2: a fresh end of these settings.
 pub fn fresh(s: Settings) -> Link
     ensures { λ r. ⌜ r ≡ freshOf s ⌝ }
 {
@@ -206,7 +210,7 @@ fn renew(l: Link) -> Link
     fresh(l.settings)
 }
 
-// The one way by which an end becomes fresh with its settings kept: what it tells, with a frame of so many bytes sent.
+// The one way by which an end becomes fresh and keeps its settings (R4.5, R5.9): what it tells, with a frame of so many bytes sent.
 pub fn become_fresh(l: Link, sent: u16) -> Outcome
     ensures { λ r. ⌜ r ≡ becameFresh l sent ⌝ }
 {
@@ -222,6 +226,7 @@ pub fn become_fresh(l: Link, sent: u16) -> Outcome
 
 // ---- timers
 
+// R12.1: a subtraction that wraps, so no clock is compared by size (R6.1).
 fn elapsed_since(start: u32, ms: u32) -> u32
     ensures { λ r. ⌜ r ≡ elapsed start ms ⌝ }
 {
@@ -239,6 +244,7 @@ fn left_of(timeout: u16, start: u32, ms: u32) -> u16
     0
 }
 
+// R12.5: the start time of the packet that n were sent after, found by its slot.
 fn start_of(l: Link, n: u8) -> u32
     requires { ⌜ (n ≤ 3) × (1 ≤ l .settings .window) × (l .settings .window ≤ 2) ⌝ }
     ensures { λ r. ⌜ r ≡ startOf l (sentBefore l n) ⌝ }
@@ -255,7 +261,7 @@ pub fn is_packet_due(l: Link, n: u8, ms: u32) -> bool
     (n < l.waiting) & (left_of(l.settings.transtimeout, start_of(l, n), ms) == 0)
 }
 
-// Whether the acknowledge timer runs and is due.
+// Whether the acknowledge timer is due; a stopped one is not.
 pub fn is_acknowledge_due(l: Link, ms: u32) -> bool
     ensures { λ r. ⌜ r ≡ acknowledgeDue l ms ⌝ }
 {
@@ -303,7 +309,7 @@ pub fn time_left(l: Link, ms: u32) -> u16
 
 // ---- start and resynchronise
 
-// The state of zeros, to which every call answers 1.
+// The state of zeros (R8.1).
 pub fn zero_state() -> Link
     ensures { λ r. ⌜ r ≡ zeros ⌝ }
 {
@@ -316,7 +322,7 @@ pub fn zero_state() -> Link
     })
 }
 
-// An end to begin with, fresh, or the state of zeros where it is refused.
+// R1.3: an end to begin with, fresh, or the state of zeros where it is refused.
 pub fn start(s: Settings, slots: &[u8]) -> Outcome
     ensures { λ r. ⌜ r ≡ started s (length (now (slots .entry))) ⌝ }
 {
@@ -337,7 +343,7 @@ fn send_reset(l: Link, slots: &[u8], frame: &mut [u8]) -> Outcome
     become_fresh(l, sent)
 }
 
-// Sends the reset frame and makes the end fresh, lost or not.
+// R5.9: the reset frame goes out and the end is fresh, its link lost before or not.
 pub fn resynchronise(l: Link, slots: &[u8], frame: &mut [u8], _ms: u32) -> Outcome
     ensures { λ r. ⌜ after r (now (slots .entry)) (now (frame .exit)) ≡ resynchronised l (now (slots .entry)) (now (frame .entry)) ⌝ }
 {

@@ -1,4 +1,4 @@
--- `fcs::table::entries` meets its contract: one test, which antt computes at each entry.
+-- `fcs::table::entries` meets its contract: one test, which antt computes at each entry (R12.3).
 -- Assumes nothing.
 use mathlib.Core.Path.{refl}
 use Rattle.fcs.proofs.Agree.{tested, tested-agrees}
