@@ -16,7 +16,7 @@ outOfRange = 1
 abbrev pub shortBuffer : ℕ
 shortBuffer = 2
 
--- R8.3: the link is given up
+-- R8.3: the link is lost
 abbrev pub linkLost : ℕ
 linkLost = 3
 
@@ -24,11 +24,11 @@ linkLost = 3
 abbrev pub packetSize : ℕ
 packetSize = 4
 
--- R8.5: no slot is free for another packet
+-- R8.5: the window is full
 abbrev pub windowFull : ℕ
 windowFull = 5
 
--- R8.6: a broken frame, by step 1 or 4
+-- R8.6: a damaged frame, by step 1 or 4
 abbrev pub badFrame : ℕ
 badFrame = 6
 
@@ -36,7 +36,7 @@ badFrame = 6
 abbrev pub unusedCode : ℕ
 unusedCode = 7
 
--- R8.8: a misshapen control frame, by step 3
+-- R8.8: a control frame of a wrong size, by step 3
 abbrev pub controlSize : ℕ
 controlSize = 8
 
@@ -44,15 +44,15 @@ controlSize = 8
 abbrev pub unexpected : ℕ
 unexpected = 9
 
--- R8.10: a packet that its chain forbids
+-- R8.10: a packet that does not fit its chain
 abbrev pub chainFault : ℕ
 chainFault = 10
 
--- R8.14: the message outgrows 4,096 bytes
+-- R8.14: the message grows past 4,096 bytes
 abbrev pub tooLong : ℕ
 tooLong = 14
 
--- R8.15: the peer says that a chain broke
+-- R8.15: the peer tells of a fault in a chain
 abbrev pub faultTold : ℕ
 faultTold = 15
 
@@ -68,7 +68,7 @@ securedPacket = 12
 abbrev pub messageSize : ℕ
 messageSize = 13
 
--- R8.16: a packet behind the message's last
+-- R8.16: the message has no packet of that number
 abbrev pub noSuchPacket : ℕ
 noSuchPacket = 16
 

@@ -1,5 +1,5 @@
 -- A received frame, steps 1 to 4: what the bytes are, with the format given and no state. R3.1, R3.2, R3.5, R3.6, R4.1 to R4.4, with R2.5 and
--- R12.8; and where the packet of R4.7 is.
+-- R12.7; and where the packet of R4.7 is.
 use Prim.Native.Nat.{ℕ, _+_, _-_, _*_, _/_, _%_}
 use mathlib.Core.Bool.{Bool, true, false, cond, not, _&&_, _||_}
 use mathlib.Core.List.{List, [], _∷_}
@@ -83,7 +83,7 @@ heard format frame =
     cond (ltb (length frame) 5 || ltb (format .d) (length frame)) Size
     (cond (not (fcsAt format (length frame - 2) frame)) Sum (judged (fctrOf frame) (lenOf frame) (length frame)))
 
--- R12.8. The numbers: 6 for steps 1 and 4, 7 for step 2, 8 for step 3; 0 for a control frame that passes, and for a data frame 0, or 9 by
+-- R12.7. The numbers: 6 for steps 1 and 4, 7 for step 2, 8 for step 3; 0 for a control frame that passes, and for a data frame 0, or 9 by
 -- step 7, which needs the state. The values are the cases' own, read off FCTR and LEN by the definitions above.
 abbrev pub refusalOf : Heard → ℕ
 refusalOf Size = badFrame

@@ -15,7 +15,7 @@ pub struct Format {
     pub d: u16,
 }
 
-// What steps 1 to 4 make of a received frame. Each refusal has a case of its own, also where two have one number (R12.8).
+// What steps 1 to 4 make of a received frame. Each refusal has a case of its own, also where two have one number (R12.7).
 pub enum Heard {
     Size,
     Sum,

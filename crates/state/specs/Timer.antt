@@ -34,7 +34,7 @@ packetDue l n ms = ltb n (l .waiting) && due (l .settings .transtimeout) (startO
 abbrev pub acknowledgeDue : Link → ℕ → Bool
 acknowledgeDue l ms = l .acking && due (l .settings .acktimeout) (l .ackstart) ms
 
--- ---- how long none of them is due: for who waits, and no rule's (DECISIONS D91)
+-- ---- R6.6: how long none of them is due
 
 -- no timer runs. No timeout comes near it.
 abbrev pub noTimer : ℕ

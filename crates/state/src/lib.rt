@@ -296,7 +296,7 @@ fn least(a: u16, b: u16) -> u16
     if a < b { a } else { b }
 }
 
-// The least milliseconds left over all running timers, 0 where one is due, NO_TIMER where none runs.
+// R6.6: 0 where a timer is due, NO_TIMER where none runs.
 pub fn time_left(l: Link, ms: u32) -> u16
     ensures { λ r. ⌜ r ≡ timeLeft l ms ⌝ }
 {
