@@ -1,6 +1,6 @@
--- Ways to cut and to join that the contracts shut out; proofs/Shut.antt shows it. A contract is an equation with `cutOut` or `joined` on every
--- input, so a call that is to meet it is that function. Each wrong one here is a function too, the true one but for one thing, and ShutOut says
--- that it is not the true one.
+-- Ways to cut and to join that the contracts shut out, those of R13.3 and more; proofs/Shut.antt shows it. A contract is an equation with `cutOut` or
+-- `joined` on every input, so a call that is to meet it is that function. Each wrong one here is a function too, the true one but for one thing, and
+-- ShutOut says that it is not the true one. "against" names the rule that it breaks.
 use Prim.Native.Nat.{ℕ, _+_, _-_, _*_, _/_, _%_, _≤_}
 use mathlib.Core.Bool.{Bool, true, false, cond, not, _&&_}
 use mathlib.Core.List.{List, [], _∷_, _++_}
@@ -23,7 +23,7 @@ CutCall = ℕ → List ℕ → ℕ → List ℕ → Cutting
 abbrev pub cutBut : (ℕ → ℕ → List ℕ → Cutting → Cutting) → CutCall
 cutBut change m message i buffer = change (length message) i buffer (cutOut m message i buffer)
 
--- document 01's five: it refuses everything, by whatever number (done: it does nothing, and claims to have done it), ..
+-- R13.3, the five: it refuses all, by whatever number (done: it does nothing, and claims to have done it), ..
 abbrev pub cutRefusing : ℕ → CutCall
 cutRefusing answer m message i buffer = cutting (record { count = 0; length = 0; answer = answer }) buffer
 
@@ -43,35 +43,35 @@ cutInventing count bytes =
     cutBut (λ message i buffer right.
     cutting (record { count = right .told .count + count; length = right .told .length + bytes; answer = right .told .answer }) (right .buffer))
 
--- content with a buffer of one byte less: it does as the true call does with one byte more, and gives back as many as were lent
+-- against R2.4: content with a buffer of one byte less: it does as the true call does with one byte more, and gives back as many as were lent
 abbrev pub cutSparing : CutCall
 cutSparing m message i buffer =
     let longer : Cutting = cutOut m message i (buffer ++ (0 ∷ [])) in
     cutting (longer .told) (take (length buffer) (longer .buffer))
 
--- one packet more than there are
+-- against R8.16: one packet more than there are
 abbrev pub cutPastLast : CutCall
 cutPastLast m message i buffer =
     let right : Cutting = cutOut m message i buffer in
     cond (eqb (right .told .answer) noSuchPacket && eqb i (packetCount m (length message))) (given m onlyChannel message i buffer) right
 
--- an empty message as one packet, of PCTR alone
+-- against R8.13: an empty message as one packet, of PCTR alone
 abbrev pub cutEmpty : CutCall
 cutEmpty =
     cutBut (λ message i buffer right.
     cond (eqb (right .told .answer) messageSize && eqb message 0)
     (cutting (record { count = 1; length = 1; answer = done }) (put buffer 0 (pctrOf onlyChannel whole ∷ []))) right)
 
--- "Bytes of a lent buffer past what a call writes stay.": a byte, whatever it is, goes right behind the packet ..
+-- against R9.3: a byte, whatever it is, goes right behind the packet ..
 abbrev pub cutOverrunning : ℕ → CutCall
 cutOverrunning byte =
     cutBut (λ message i buffer right. cond (eqb (right .told .answer) done) (cutting (right .told) (set (right .buffer) (right .told .length) byte)) right)
 
--- .. or to the start of the buffer, where cut refuses
+-- .. or becomes the buffer's first, where cut refuses
 abbrev pub cutSmearing : ℕ → CutCall
 cutSmearing byte = cutBut (λ message i buffer right. cond (eqb (right .told .answer) done) right (cutting (right .told) (set buffer 0 byte)))
 
--- a packet told one byte shorter than it is
+-- against R1.6: a packet told one byte shorter than it is
 abbrev pub cutShorter : CutCall
 cutShorter =
     cutBut (λ message i buffer right.
@@ -86,17 +86,17 @@ cutBy count packet m message i buffer =
     (cutting (record { count = count m (length message); length = length told; answer = done }) (put buffer 0 told))
     right
 
--- "last 100 with 1 to m − 1 bytes of it": where m − 1 divides the length, an empty packet more is counted
+-- against R7.3: where m − 1 divides the length, an empty packet more is counted
 abbrev pub emptyMore : ℕ → ℕ → ℕ
 emptyMore m message = (message + partSize m) / partSize m
 
--- the last packet but one is marked as the last, unless it is the first; the last as a middle one
+-- against R7.3: the last packet but one is marked as the last, unless it is the first; the last as a middle one
 abbrev pub lastEarly : ℕ → List ℕ → ℕ → List ℕ
 lastEarly m message i =
     let count : ℕ = packetCount m (length message) in
     pctrOf onlyChannel (cond (eqb i 0) (chainAt i count) (chainAt (i + 1) count)) ∷ partAt m message i
 
--- the part from i × m on
+-- against R7.3: the part from i × m on
 abbrev pub partByLimit : ℕ → List ℕ → ℕ → List ℕ
 partByLimit m message i = pctrOf onlyChannel (chainAt i (packetCount m (length message))) ∷ take (partSize m) (drop (i * m) message)
 
@@ -129,7 +129,7 @@ joinBut change m j packet room = change j room (joined m j packet room)
 abbrev pub leaving : Joining → ℕ → Joins → Joins
 leaving j len a = joins (record { state = j; length = len; answer = a .told .answer; fault = a .told .fault }) (a .room)
 
--- the same five: it refuses everything, or does nothing, ..
+-- R13.3, the same five: it refuses all, or does nothing, ..
 abbrev pub joinRefusing : ℕ → JoinCall
 joinRefusing answer m j packet room = joins (record { state = j; length = 0; answer = answer; fault = 0 }) room
 
@@ -146,21 +146,22 @@ joinPretending = joinBut (λ j room right. joins (right .told) (cond (j .opened)
 abbrev pub joinInventing : ℕ → JoinCall
 joinInventing bytes = joinBut (λ j room right. leaving (right .told .state) (right .told .length + bytes) right)
 
--- content with a room of one byte less
+-- against R2.4: content with a room of one byte less
 abbrev pub joinSparing : JoinCall
 joinSparing m j packet room =
     let longer : Joins = joined m j packet (room ++ (0 ∷ [])) in
     joins (longer .told) (take (length room) (longer .room))
 
--- another state with an answer: 11 or 12 that drops the chain (with 12 none is open, or it were 10: what a state may still have is a length), ..
+-- another state with an answer: against R8.11 and R8.12, 11 or 12 that drops the chain (with 12 none is open, or it were 10: what a state may still
+-- have is a length), ..
 abbrev pub dropsWith : ℕ → JoinCall
 dropsWith answer = joinBut (λ j room right. cond (eqb (right .told .answer) answer) (leaving (closed j) (right .told .length) right) right)
 
--- .. or 10, 14 or 15 that keeps it
+-- .. or, against R8.10, R8.14 and R8.15, 10, 14 or 15 that keeps it
 abbrev pub keepsWith : ℕ → JoinCall
 keepsWith answer = joinBut (λ j room right. cond (eqb (right .told .answer) answer) (leaving j (right .told .length) right) right)
 
--- "With answer 10, and no other, joining also tells, as a number, the one-byte packet 07": with this answer, too
+-- against R7.6: with this answer, too
 abbrev pub faultWith : ℕ → JoinCall
 faultWith answer =
     joinBut (λ j room right.
@@ -168,27 +169,27 @@ faultWith answer =
     (joins (record { state = right .told .state; length = right .told .length; answer = answer; fault = faultPacket onlyChannel }) (right .room))
     right)
 
--- a byte goes to the start of the room, where join refuses
+-- against R9.3: a byte becomes the first of the room, where join refuses, ..
 abbrev pub joinSmearing : ℕ → JoinCall
 joinSmearing byte = joinBut (λ j room right. cond (eqb (right .told .answer) done) right (joins (right .told) (set room 0 byte)))
 
--- or right behind what is joined, where join does not
+-- .. or goes right behind what is joined, where join does not
 abbrev pub joinOverrunning : ℕ → JoinCall
 joinOverrunning byte =
     joinBut (λ j room right.
     cond (eqb (right .told .answer) done) (joins (right .told) (set (right .room) (right .told .state .length + right .told .length) byte)) right)
 
--- a packet with such a CHAIN is joined as if a chain were open, or as if none were: a 000 while one is, or a 100 while none is
+-- against R7.5: a packet with such a CHAIN is joined as if a chain were open, or as if none were: a 000 while one is, or a 100 while none is
 abbrev pub asIf : ℕ → Bool → JoinCall
 asIf chain opened m j packet room = joined m (cond (eqb (chainOf (getD packet 0 0)) chain) (record { length = j .length; opened = opened }) j) packet room
 
--- "The part of a 000 or 001 goes to the start of the room": that of a 001, which opens a chain, goes behind what is joined, as that of a 010
+-- against R7.7: the part of a 001, which opens a chain, goes behind what is joined, as that of a 010
 abbrev pub behindJoined : JoinCall
 behindJoined m j packet room =
     let right : Joins = joined m j packet room in
     cond (right .told .state .opened && not (j .opened)) (partAdded j packet middle room) right
 
--- "total above 4,096": 4,097 bytes are joined where the room has them
+-- against R8.14: 4,097 bytes are joined where the room has them
 abbrev pub oneMore : JoinCall
 oneMore m j packet room =
     let right : Joins = joined m j packet room in
@@ -197,14 +198,14 @@ oneMore m j packet room =
     (partAdded j packet chain room)
     right
 
--- "secured bit set on 000 or 001, 12 (ignored on others, section 6.1)": also on 010
+-- against R7.5: 12 also to a 010
 abbrev pub securedMiddle : JoinCall
 securedMiddle m j packet room =
     let right : Joins = joined m j packet room in
     let pctr : ℕ = getD packet 0 0 in
     cond (eqb (right .told .answer) done && (securedOf pctr && eqb (chainOf pctr) middle)) (joins (refusal onlyChannel j securedPacket) room) right
 
--- channel 1 is taken for channel 0
+-- against R8.11: channel 1 is taken for channel 0
 abbrev pub twoChannels : JoinCall
 twoChannels m j packet room =
     let pctr : ℕ = getD packet 0 0 in
@@ -235,6 +236,7 @@ pub record JoinShut : Type 0 where
   pub on-refusal : (byte : ℕ) → joinSmearing byte ≢ joined
   pub behind-the-part : (byte : ℕ) → joinOverrunning byte ≢ joined
 
+-- R13.3, and the others with them
 pub record ShutOut : Type 0 where
   pub cut : CutShut
   pub join : JoinShut

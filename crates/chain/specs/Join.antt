@@ -1,4 +1,4 @@
--- join, on every input. Document 01, "Chaining": "Joining, in order: ..".
+-- join, on every input: R1.6, R2.4, R7.4 to R7.8.
 use Prim.Native.Nat.{ℕ, _+_, _-_}
 use mathlib.Core.Bool.{Bool, true, false, cond, not, _&&_, _||_}
 use mathlib.Core.List.{List}
@@ -12,12 +12,11 @@ use Rattle.chain.specs.declared.Joined.{Joined}
 use Rattle.chain.specs.Pctr.{onlyChannel, channelOf, securedOf, chainOf, pctrOf, whole, first, middle, last, fault}
 use Rattle.chain.specs.Cut.{limitOk, longest}
 
--- Document 01 names no state to begin with; it is the one after a finished or a dropped chain, in which "none is open and the joined length
--- is 0". "Chaining has two calls": what gives this state is no third one.
+-- R7.4: the state to begin with is the one after a finished or a dropped chain (R7.8). What gives it is no third call (R1.6, DECISIONS D47).
 abbrev pub freshJoining : Joining
 freshJoining = record { length = 0; opened = false }
 
--- what becomes of a joining whose chain ends or is dropped: "none is open and the joined length is 0" ..
+-- R7.8: what becomes of a joining whose chain ends or is dropped ..
 abbrev pub closed : Joining → Joining
 closed j = record { length = 0; opened = false }
 
@@ -35,18 +34,19 @@ joins told room = record { told = told; room = room }
 
 -- ---- refusals
 
--- "the one-byte packet 07 (section 5.2)", of a channel
+-- R7.6: the packet that tells the peer, of a channel
 abbrev pub faultPacket : ℕ → ℕ
 faultPacket channel = pctrOf channel fault
 
--- "10, 14, 15 .. chain dropped, room untouched"; of the others "nothing changed"
+-- R8.10, R8.14, R8.15: the answers that drop the chain; every other refusal leaves it
 abbrev pub dropsChain : ℕ → Bool
 dropsChain answer = eqb answer chainFault || (eqb answer tooLong || eqb answer faultTold)
 
--- "With answer 10, and no other, joining also tells, as a number, the one-byte packet 07 (section 5.2) for the caller to submit."
+-- R7.6: what is told with an answer; 0 where there is nothing to submit (DECISIONS D54)
 abbrev pub faultOf : ℕ → ℕ → ℕ
 faultOf channel answer = cond (eqb answer chainFault) (faultPacket channel) 0
 
+-- R7.6, R7.8: what join tells with a refusal
 abbrev pub refusal : ℕ → Joining → ℕ → Joined
 refusal channel j answer = record {
   state = cond (dropsChain answer) (closed j) j;
@@ -57,20 +57,19 @@ refusal channel j answer = record {
 
 -- ---- the outer checks
 
--- "packet of 0 or more than m bytes, 4; channel not 0, 11"
+-- R7.5, its rows of 4 and 11
 unfoldable pub packetGate : ℕ → List ℕ → ℕ
 packetGate m packet =
     firstOf (cond (within 1 (length packet) m) done packetSize) (cond (eqb (channelOf (getD packet 0 0)) onlyChannel) done otherChannel)
 
--- "Joining also gives 1 first for such an m"; "a joined length above 4,096"; "room too short, 2", then 4 and 11. "The slot buffer needs .., the
--- joining room 4,096."
+-- R7.5, its rows of 1 and 2, then those of 4 and 11; of the length of the room, which must be that of R2.4
 unfoldable pub joinGate : ℕ → Joining → List ℕ → ℕ → ℕ
 unfolding packetGate
 joinGate m j packet room =
     firstOf (cond (limitOk m && leb (j .length) longest) done outOfRange)
     (firstOf (cond (ltb room longest) shortBuffer done) (packetGate m packet))
 
--- ---- the chain: the rules behind "channel not 0, 11", which will be the same for every channel
+-- ---- the chain: the rows of R7.5 behind that of 11, which will be the same for every channel
 
 -- 000 and 001 begin a message, 010 and 100 go on with one
 abbrev pub begins : ℕ → Bool
@@ -83,8 +82,7 @@ goesOn chain = eqb chain middle || eqb chain last
 abbrev pub finishes : ℕ → Bool
 finishes chain = eqb chain whole || eqb chain last
 
--- "CHAIN 011, 101, 110 or longer 111, 10; 000 or 001 while a chain is open, or 010 or 100 while none is, 10; 001 or 010 not exactly m bytes, 10;
--- 000 or 100 of one byte, 10". "The orphan and one-byte rules are ours, where 000 is silent."
+-- R7.5, its four rows of 10, in their order: of m, whether a chain is open, CHAIN and the packet's length
 unfoldable pub faulty : ℕ → Bool → ℕ → ℕ → Bool
 faulty m opened chain size =
     not (begins chain || goesOn chain)
@@ -92,15 +90,15 @@ faulty m opened chain size =
     || (not (finishes chain) && not (eqb size m))
     || (finishes chain && eqb size 1)
 
--- "The part of a 000 or 001 goes to the start of the room, that of a 010 or 100 behind what is joined."
+-- R7.7: where in the room the part goes
 abbrev pub placeOf : Joining → ℕ → ℕ
 placeOf j chain = cond (begins chain) 0 (j .length)
 
--- of the packet's bytes all but PCTR are the message's
+-- R7.5, R7.8: the length with this part; of the packet's bytes all but PCTR are the message's
 abbrev pub totalOf : Joining → ℕ → ℕ → ℕ
 totalOf j chain size = placeOf j chain + (size - 1)
 
--- "CHAIN 111 with one byte, 15"; then 10; "secured bit set on 000 or 001, 12 (ignored on others, section 6.1); total above 4,096, 14"
+-- R7.5, its rows from 15 on: of m, the joining, PCTR and the packet's length
 unfoldable pub chainGate : ℕ → Joining → ℕ → ℕ → ℕ
 unfolding faulty
 chainGate m j pctr size =
@@ -109,8 +107,7 @@ chainGate m j pctr size =
     (firstOf (cond (securedOf pctr && begins (chainOf pctr)) securedPacket done)
     (cond (ltb longest (totalOf j (chainOf pctr) size)) tooLong done)))
 
--- "After an accepted 000 or 100 the answer tells the message's length (0 otherwise), and, as after a dropped chain, none is open and the joined
--- length is 0."
+-- R7.8: what join tells of a part that it joined
 abbrev pub partTold : Joining → ℕ → ℕ → Joined
 partTold j chain size = record {
   state = cond (finishes chain) (closed j) (grown j (totalOf j chain size));
@@ -119,6 +116,7 @@ partTold j chain size = record {
   fault = 0;
 }
 
+-- R7.7
 abbrev pub partAdded : Joining → List ℕ → ℕ → List ℕ → Joins
 partAdded j packet chain room = joins (partTold j chain (length packet)) (put room (placeOf j chain) (drop 1 packet))
 
@@ -131,6 +129,7 @@ partJoined m channel j packet room =
 
 -- ---- the call
 
+-- R1.6: join
 unfoldable pub joined : ℕ → Joining → List ℕ → List ℕ → Joins
 unfolding joinGate partJoined
 joined m j packet room =

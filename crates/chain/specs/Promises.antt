@@ -1,6 +1,7 @@
--- What is promised of cutting and joining beyond the calls' contracts; proofs/Chains.antt and proofs/Rejoining.antt prove it.
--- CutsAll, RejoinsAll and NoneBefore serve demand 2, in which chaining is to be right at the sending end and the receiving end alike: the first
--- ties packetsOf to the call cut, the others to the call join. LimitsAgree and PacketsSized are for "with chaining above it".
+-- What is promised of cutting and joining beyond the calls' contracts: R2.2, R13.1, R13.2, R14.1, R14.2; proofs/Chains.antt and
+-- proofs/Rejoining.antt prove it. CutsAll, RejoinsAll and NoneBefore serve demand 2 (R14.2), in which chaining is to be right at the sending end and
+-- the receiving end alike: the first ties packetsOf to the call cut, the others to the call join. LimitsAgree and PacketsSized are for R1.1, by which
+-- chaining stands on the link.
 use Prim.Native.Nat.{ℕ, zero, suc, _-_, _<_, _≤_}
 use mathlib.Core.Bool.{true, false, cond}
 use mathlib.Core.List.{List, [], _∷_, _++_}
@@ -24,6 +25,7 @@ cutsTo m message buffer zero = []
 cutsTo m message buffer (suc k) =
     cutsTo m message buffer k ++ (take (cutOut m message k buffer .told .length) (cutOut m message k buffer .buffer) ∷ [])
 
+-- R14.2
 abbrev pub CutsAll : Type 0
 CutsAll =
     (m : ℕ) (message buffer : List ℕ) → limitOk m ≡ true → m ≤ length buffer → 1 ≤ length message → length message ≤ longest
@@ -31,7 +33,7 @@ CutsAll =
 
 -- ---- what is cut can be sent
 
--- "DATA_REG_LEN (D) | 16 to 1,024" and "packet limit m = D − 5, PCTR included | 11 to 1,019" are one bound: m of a link is an m of chaining
+-- R2.2: its range of m and that of D in R2.1 are one bound: m of a link is an m of chaining
 abbrev pub LimitsAgree : Type 0
 LimitsAgree = (d : ℕ) → within 16 d 1024 ≡ limitOk (d - 5)
 
@@ -40,7 +42,7 @@ pub data Sized (m : ℕ) : List (List ℕ) → Type 0 where
   none : Sized m []
   more : (packet : List ℕ) (packets : List (List ℕ)) → 2 ≤ length packet → length packet ≤ m → Sized m packets → Sized m (packet ∷ packets)
 
--- submit refuses a "packet of 0 or more than m bytes", and joining a "000 or 100 of one byte": no packet of a message is one
+-- submit refuses other sizes than 1 to m (R8.4), and join a 000 or 100 that is PCTR alone (R7.5): no packet of a message is such a one
 abbrev pub PacketsSized : Type 0
 PacketsSized = (m channel : ℕ) (message : List ℕ) → limitOk m ≡ true → Sized m (packetsOf m channel message)
 
@@ -80,7 +82,7 @@ abbrev pub dones : ℕ → List ℕ
 dones zero = []
 dones (suc k) = dones k ++ (done ∷ [])
 
--- After all packets of a message, in order: 0 to each, this message and no other, none open, and a room as long as before.
+-- R14.2: after all packets of a message, in order: 0 to each, this message and no other, none open, and a room as long as before.
 pub record Rejoined (m : ℕ) (message : List ℕ) (r s : Reader) : Type 0 where
   pub answers : s .answers ≡ r .answers ++ dones (packetCount m (length message))
   pub messages : s .messages ≡ r .messages ++ (message ∷ [])
@@ -92,7 +94,7 @@ RejoinsAll =
     (m : ℕ) (message : List ℕ) (r : Reader) → limitOk m ≡ true → 1 ≤ length message → length message ≤ longest → Idle r
     → Rejoined m message r (readAll m r (packetsOf m onlyChannel message))
 
--- After fewer of them, the first k: 0 to each, and no message.
+-- R14.2: after fewer of them, the first k: 0 to each, and no message.
 pub record Unfinished (k : ℕ) (r s : Reader) : Type 0 where
   pub answers : s .answers ≡ r .answers ++ dones k
   pub messages : s .messages ≡ r .messages
@@ -104,7 +106,7 @@ NoneBefore =
 
 -- ---- the calls alone
 
--- "any two outcomes allowed are equal"
+-- R13.1, R13.2: each has its call's contract twice, on every input
 abbrev pub CutSettled : Type 0
 CutSettled =
     (m : ℕ) (message : List ℕ) (i : ℕ) (packet : List ℕ) (told other : Piece) (written otherWritten : List ℕ)
@@ -117,6 +119,6 @@ JoinSettled =
     → joins told written ≡ joined m j packet room → joins other otherWritten ≡ joined m j packet room
     → (told ≡ other) × (written ≡ otherWritten)
 
--- Serves demand 1, by which no caller has to check first: a state that join left is not refused for "a joined length above 4,096".
+-- R14.1: serves demand 1, by which no caller has to look first: a state that join left is not refused for its joined length (R8.1).
 abbrev pub JoinKept : Type 0
 JoinKept = (m : ℕ) (j : Joining) (packet room : List ℕ) → j .length ≤ longest → joined m j packet room .told .state .length ≤ longest

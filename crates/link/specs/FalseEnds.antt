@@ -1,6 +1,7 @@
--- Ends that the contracts shut out; proofs/Shut.antt shows it. A contract is an equation with a definition (`started`, `submitted`, ..) on every
--- input, so a call that is to meet it is that function. Each wrong end here is a function too, the true one but for one thing, and ShutOut and
--- ShutOutAlone say that it is not the true one. (They differ at an input that code can be given: that is where the proofs try them.)
+-- Ends that the contracts shut out, those of R11.1 to R11.5 and of R13.3 and many more; proofs/Shut.antt shows it. A contract is an equation with a
+-- definition (`started`, `submitted`, ..) on every input, so a call that is to meet it is that function. Each wrong end here is a function too, the
+-- true one but for one thing, and ShutOut and ShutOutAlone say that it is not the true one. (They differ at an input that code can be given: that is
+-- where the proofs try them.) "against" names the rule that an end breaks.
 use Prim.Native.Nat.{ℕ, zero, suc, _+_, _-_, _*_, _/_, _%_, _≤_}
 use mathlib.Core.Bool.{Bool, true, false, cond, not, _&&_, _||_}
 use mathlib.Core.List.{List, [], _∷_, _++_}
@@ -110,24 +111,23 @@ leaving l a =
 abbrev pub writing : List ℕ → After Outcome → After Outcome
 writing bytes a = after (a .told) (a .slots) (put (a .frame) 0 bytes)
 
--- an outcome that tells another length of the frame sent, and another count of drops
+-- an outcome that tells another length of what was sent, and another count of drops
 abbrev pub telling : ℕ → ℕ → After Outcome → After Outcome
 telling sent dropped a =
     let told : Outcome = a .told in
     after (record { state = told .state; sent = sent; delivered = told .delivered; dropped = dropped; answer = told .answer }) (a .slots) (a .frame)
 
--- ---- document 01's five: "Try these against the statements: an end that refuses everything, one that always sends the same frame, one that does
--- nothing, one that serves the first packet and then only pretends, one that invents packet or drop counts. Demand 2 shuts out each."
+-- ---- R13.3: the five that demand 2 (R14.2) is to shut out, each for all the calls on a state
 
--- by whatever number
+-- R13.3, refusing: by whatever number; by done it does nothing
 abbrev pub refuse : ℕ → Change
 refuse answer call l slots frame = refused l answer slots frame
 
--- only what is to be done; every refusal is right
+-- R13.3, refusing: only what is to be done; every refusal is right
 abbrev pub refuseDone : ℕ → Change
 refuseDone answer = instead (answers done) (λ l slots frame right. refused l answer slots frame)
 
--- whatever frame that is, also where none is to be sent; all else is as it should be
+-- R13.3, the same frame: whatever frame that is, also where none is to be sent; all else is as it should be
 abbrev pub repeat : List ℕ → Change
 repeat same call l slots frame =
     let right : After Outcome = call l slots frame in
@@ -137,17 +137,18 @@ repeat same call l slots frame =
 abbrev pub repeatWhereSent : List ℕ → Change
 repeatWhereSent same call = instead sends (λ l slots frame right. repeat same call l slots frame) call
 
--- all is as it should be while the next number is 0 (a state cannot tell the fifth packet from the first); then it is told so, and nothing is written
+-- R13.3, pretending: all is as it should be while the next number is 0 (a state cannot tell the fifth packet from the first); then it is told so,
+-- and nothing is written
 abbrev pub pretend : Change
 pretend call l slots frame =
     let right : After Outcome = call l slots frame in
     cond (eqb (l .next) 0) right (after (right .told) slots frame)
 
--- all is written and told as it should be, and the state stays
+-- R13.3, pretending: all is written and told as it should be, and the state stays
 abbrev pub stay : Change
 stay = instead (answers done) (λ l slots frame right. leaving l right)
 
--- so many more bytes delivered, or so many more packets dropped
+-- R13.3, making up: so many more bytes delivered, or so many more packets dropped
 abbrev pub counting : ℕ → ℕ → Outcome → Outcome
 counting delivered dropped told = record {
   state = told .state;
@@ -163,14 +164,14 @@ inventWhere such delivered dropped = instead such (λ l slots frame right. after
 abbrev pub invent : ℕ → ℕ → Change
 invent = inventWhere (λ right. true)
 
--- as calls, for the statement of two ends (pair); refusing and idle are submit and take alike
+-- R13.3, as calls, for the statement of two ends (pair); refusing and idle are submit and take alike
 abbrev pub refusing : ℕ → Call
 refusing answer = submitBut (refuse answer)
 
 abbrev pub repeating : List ℕ → Call
 repeating same = submitBut (repeat same)
 
--- and claims to have done it
+-- R13.3, doing nothing, and claiming to have done it
 abbrev pub idle : Call
 idle = refusing done
 
@@ -182,7 +183,7 @@ inventing delivered dropped = takeBut (invent delivered dropped)
 
 -- ---- lent buffers
 
--- content with one byte less: it does as the true call does with one byte more, and gives back as many as were lent
+-- against R2.4: content with one byte less: it does as the true call does with one byte more, and gives back as many as were lent
 abbrev pub spareSlots : Change
 spareSlots call l slots frame =
     let longer : After Outcome = call l (slots ++ (0 ∷ [])) frame in
@@ -193,11 +194,11 @@ spareFrame call l slots frame =
     let longer : After Outcome = call l slots (frame ++ (0 ∷ [])) in
     after (longer .told) (longer .slots) (take (length frame) (longer .frame))
 
--- "Bytes of a lent buffer past what a call writes stay.": a byte, whatever it is, goes right behind a frame that is sent
+-- against R9.3: a byte, whatever it is, goes right behind a frame that is sent
 abbrev pub overrun : ℕ → Change
 overrun byte = instead sends (λ l slots frame right. after (right .told) (right .slots) (set (right .frame) (right .told .sent) byte))
 
--- "nothing changed": it goes to the start of the frame buffer, or of the slot buffer, where the call refuses and sends nothing
+-- against R9.3: it becomes the first byte of the frame buffer, or of the slot buffer, where the call refuses and sends nothing
 abbrev pub refusesSilently : After Outcome → Bool
 refusesSilently a = not (answers done a || sends a)
 
@@ -207,24 +208,24 @@ smear byte = instead refusesSilently (λ l slots frame right. after (right .told
 abbrev pub smearSlots : ℕ → Change
 smearSlots byte = instead refusesSilently (λ l slots frame right. after (right .told) (set slots 0 byte) frame)
 
--- so it goes where the call is done and sends nothing
+-- against R9.3: so it does where the call is done and sends nothing
 abbrev pub smearDone : ℕ → Change
 smearDone byte = instead (λ right. answers done right && not (sends right)) (λ l slots frame right. after (right .told) slots (set frame 0 byte))
 
--- "every other byte stays": a byte goes right behind the packet in the slot buffer
+-- against R5.4: a byte goes right behind the packet in the slot buffer
 abbrev pub overrunSlots : ℕ → Call
 overrunSlots byte l slots frame ms packet =
     submitBut (instead (answers done) (λ l slots frame right. after (right .told) (set (right .slots) (partOf l (l .next) + length packet) byte) (right .frame)))
     l slots frame ms packet
 
--- ---- orders: "link calls 1, 2, 3, then 4, 5 or the frame steps; start 1, 2"
+-- ---- orders, against R9.1
 
 -- 2 before 1
 abbrev pub lengthsFirst : Change
 lengthsFirst call l slots frame =
     cond (ltb (length slots) (slotsNeed (l .settings)) || ltb (length frame) (frameNeed (l .settings))) (refused l shortBuffer slots frame) (call l slots frame)
 
--- 3 before 2; and resynchronise should not ask 3 at all
+-- 3 before 2; and resynchronise should not ask for 3 at all
 abbrev pub lostFirst : Change
 lostFirst call l slots frame = cond (wellFormed l && l .lost) (refused l linkLost slots frame) (call l slots frame)
 
@@ -240,34 +241,37 @@ shortFirst s slots = cond (ltb slots (slotsNeed s)) (only zeros shortBuffer) (st
 
 -- ---- a state handed in
 
--- "a repeat count above TRANS_REPEAT": in slot 1 it is taken for TRANS_REPEAT
+-- against R8.1: a count of repeats that is too high, in slot 1, is taken for TRANS_REPEAT
 abbrev pub oneCount : Change
 oneCount call l = call (withRepeated l (set (l .repeated) 1 (leastOf (getD (l .repeated) 1 0) (l .settings .repeats))))
 
 -- ---- start
 
+-- R13.3, refusing, or doing nothing
 abbrev pub startRefusing : ℕ → StartCall
 startRefusing answer s slots = only zeros answer
 
--- only what is to be done, and the state is right
+-- R13.3, refusing: only what is to be done, and the state is right
 abbrev pub startRefusingDone : ℕ → StartCall
 startRefusingDone answer s slots =
     let right : Outcome = started s slots in
     cond (eqb (right .answer) done) (only (right .state) answer) right
 
+-- R13.3, making up
 abbrev pub startInventing : ℕ → ℕ → StartCall
 startInventing delivered dropped s slots = counting delivered dropped (started s slots)
 
+-- against R2.4
 abbrev pub startSparing : StartCall
 startSparing s slots = started s (slots + 1)
 
--- with this answer another state than "a state of zeros"
+-- against R8.1 and R8.2: with this answer another state than the one of zeros
 abbrev pub startLeaving : Link → ℕ → StartCall
 startLeaving other answer s slots =
     let right : Outcome = started s slots in
     cond (eqb (right .answer) answer) (only other answer) right
 
--- content also with settings that would be in range with an acknowledge timeout, and a WIN_SIZE, less by so much
+-- against R2.1: content also with settings that would be in range with an acknowledge timeout, and a WIN_SIZE, less by so much
 abbrev pub startMore : ℕ → ℕ → StartCall
 startMore acktimeout window s slots =
     let less : Settings = record {
@@ -279,7 +283,7 @@ startMore acktimeout window s slots =
     } in
     cond (inRange s || inRange less) (cond (ltb slots (slotsNeed s)) (only zeros shortBuffer) (only (freshOf s) done)) (only zeros outOfRange)
 
--- "a fresh end has .. no NAK mark"
+-- against R5.2: fresh, but for the NAK mark
 abbrev pub startMarked : StartCall
 startMarked s slots =
     let right : Outcome = started s slots in
@@ -287,25 +291,25 @@ startMarked s slots =
 
 -- ---- what submit does
 
--- a packet of m bytes is refused
+-- against R8.4: a packet of m bytes is refused
 abbrev pub belowLimit : Call
 belowLimit l slots frame ms packet =
     let right : After Outcome = submitted l slots frame ms packet in
     cond ((answers done right || answers windowFull right) && eqb (length packet) (limitOf (l .settings))) (refused l packetSize slots frame) right
 
--- the packet goes to another slot than "the slot numbered (frame number modulo WIN_SIZE)", by its number
+-- against R5.4: the packet goes to another slot, by its number
 abbrev pub slotBy : (ℕ → ℕ) → Call
 slotBy slot l slots frame ms packet =
     let right : After Outcome = submitted l slots frame ms packet in
     cond (answers done right) (after (right .told) (put slots (slot (l .next) * limitOf (l .settings)) packet) (right .frame)) right
 
--- once a packet has been sent, all is as it should be but that no other is copied
+-- against R5.4: once a packet has been sent, all is as it should be but that no other is copied
 abbrev pub notCopied : Call
 notCopied = submitBut (λ call l slots frame.
     let right : After Outcome = call l slots frame in
     after (right .told) (cond (eqb (l .next) 0) (right .slots) slots) (right .frame))
 
--- "sets its repeat count to 0": to this
+-- against R5.5: how often it was sent again begins with this
 abbrev pub countFrom : ℕ → Call
 countFrom count =
     submitBut (instead (answers done)
@@ -321,19 +325,19 @@ dataBut change =
     instead sendsData
     (λ l slots frame right. writing (sealed (l .settings .format) (change (take (right .told .sent - 2) (right .frame)))) right)
 
--- number 0, whatever the packet's is
+-- against R3.5: number 0, whatever the packet's is
 abbrev pub numberZero : List ℕ → List ℕ
 numberZero bytes = set bytes 0 (fctrOf bytes % 4)
 
--- "carries ACK for the last correct number at that moment": for the one before
+-- R11.1, against R5.6: ACK of the number before the last correct one
 abbrev pub stale : List ℕ → List ℕ
 stale bytes = set bytes 0 (fctrOf bytes / 4 * 4 + (fctrOf bytes + 3) % 4)
 
--- LEN low byte first
+-- against R3.1: LEN low byte first
 abbrev pub lenTurned : List ℕ → List ℕ
 lenTurned bytes = set (set bytes 1 (getD bytes 2 0)) 2 (getD bytes 1 0)
 
--- FCS by another sum ..
+-- against R3.2 and R3.3: FCS by another sum ..
 abbrev pub summed : (List ℕ → ℕ) → Change
 summed sum =
     instead sends (λ l slots frame right.
@@ -355,16 +359,17 @@ stepsBy polynomial (suc n) seed byte =
 abbrev pub seedUp : ℕ → ℕ → ℕ
 seedUp seed byte = bitXor (byteStep 0 (bitXor seed byte % 256)) (seed * 256 % 65536)
 
--- a NAK for an ACK, of a call that sends no other control frame
+-- against R6.2 and R6.4: a NAK for an ACK, of a call that sends no other control frame
 abbrev pub nakForAck : Change
 nakForAck = instead sendsControl (λ l slots frame right. writing (nakFrame (l .settings .format) (lastCorrect l)) right)
 
--- ---- repeats: "A repeat adds 1 to its count and restarts its timer."
+-- ---- repeats
 
+-- against R5.7
 abbrev pub notCounted : Change
 notCounted = instead sendsData (λ l slots frame right. leaving (withRepeated (right .told .state) (l .repeated)) right)
 
--- made of as many bytes of the other slot, where there are two
+-- against R5.6: made of as many bytes of the other slot, where there are two
 abbrev pub otherSlot : Change
 otherSlot =
     instead sendsData (λ l slots frame right.
@@ -372,7 +377,7 @@ otherSlot =
     let packet : List ℕ = take (lengthOf l number) (drop (partOf l (number + 1)) slots) in
     writing (frameOf (l .settings .format) (fctrOf (right .frame)) packet) right)
 
--- the timer of the other slot is started, at a first sending or at a repeat
+-- against R5.5 and R5.7: the timer of the other slot is started, at a first sending or at a repeat
 abbrev pub otherTimer : ℕ → Change
 otherTimer ms =
     instead sendsData (λ l slots frame right.
@@ -380,39 +385,38 @@ otherTimer ms =
 
 -- ---- what a call does
 
--- "Each data frame, also a repeated one, .. stops the acknowledge timer."; "Every control ACK stops the acknowledge timer": one of such a kind
--- leaves it as it was
+-- against R5.6, of data frames, and R4.11, of control ACKs: one of such a kind leaves the acknowledge timer as it was
 abbrev pub timerLeft : (After Outcome → Bool) → Change
 timerLeft kind = instead kind (λ l slots frame right. leaving (withAcking (right .told .state) (l .acking)) right)
 
--- a lost end hears a reset, and nothing else
+-- against R9.1: a lost end hears a reset, and nothing else
 abbrev pub hearsReset : Call
 hearsReset l slots frame ms received =
     frameTaken (cond (sameBytes received (resetFrame (l .settings .format))) (withLost l false) l) slots frame ms received
 
--- step 3, "8, dropped, nothing sent", with a NAK
+-- against R4.3: with a NAK
 abbrev pub naksStep3 : Call
 naksStep3 = takeBut (instead (answers controlSize) (λ l slots frame right. refusedWithNak l slots frame ControlSize))
 
--- step 2, "7, NAK", with 6
+-- against R4.2: with 6
 abbrev pub codeAsSum : Call
 codeAsSum = takeBut (instead (answers unusedCode) (λ l slots frame right. refusedWithNak l slots frame Sum))
 
--- "A NAK names the last correct number + 1, .. and is sent at most once until the next delivery.": with every refusal, ..
+-- against R4.8: a NAK with every refusal, ..
 abbrev pub naksAgain : Call
 naksAgain =
     takeBut (instead (λ right. answers badFrame right || answers unusedCode right)
     (λ l slots frame right. concluded (sendsNak (withNakmark l false) frame) (right .told .answer) 0 slots))
 
--- .. or it names the last correct number
+-- .. or one that names the number before
 abbrev pub naksLast : Call
 naksLast = takeBut (instead naks (λ l slots frame right. writing (nakFrame (l .settings .format) (lastCorrect l)) right))
 
--- "Every control ACK stops the acknowledge timer; a control NAK doesn't."
+-- against R4.11: a NAK stops the timer, too
 abbrev pub nakStops : Call
 nakStops = takeBut (instead naks (λ l slots frame right. leaving (withAcking (right .told .state) false) right))
 
--- "NAK k repeats packet k": it does as if none waited
+-- against R4.6: to a NAK it does as if none waited
 abbrev pub nakIgnored : Call
 nakIgnored =
     takeBut (λ call. instead sendsData
@@ -420,7 +424,7 @@ nakIgnored =
     let other : After Outcome = call (withWaiting l 0) slots frame in
     leaving (withWaiting (other .told .state) (l .waiting)) other) call)
 
--- "the acknowledge timer starts unless it runs": also if it runs
+-- against R4.7: the acknowledge timer starts also if it runs
 abbrev pub restarts : Call
 restarts l slots frame ms =
     takeBut (instead (λ right. not (eqb (right .told .delivered) 0))
@@ -431,35 +435,35 @@ abbrev pub onReset : Change → Call
 onReset change l slots frame ms received =
     cond (sameBytes received (resetFrame (l .settings .format))) (takeBut change l slots frame ms received) (frameTaken l slots frame ms received)
 
--- "5. Reset: the end becomes fresh .., waiting packets are dropped, their count is told.": it tells a frame as sent, ..
+-- against R4.5: it tells a frame as sent, ..
 abbrev pub tellsFrame : Change
 tellsFrame = instead (answers done) (λ l slots frame right. telling (length (resetFrame (l .settings .format))) (right .told .dropped) right)
 
--- .. or, heard or sent, no drops, ..
+-- .. or, heard or sent (R5.9), no drops, ..
 abbrev pub tellsNoDrops : Change
 tellsNoDrops = instead (answers done) (λ l slots frame right. telling (right .told .sent) 0 right)
 
--- .. or leaves the NAK mark
+-- .. or leaves the NAK mark, against R5.2
 abbrev pub leavesMark : Change
 leavesMark = instead (answers done) (λ l slots frame right. leaving (withNakmark (right .told .state) (l .nakmark)) right)
 
--- "Delivering the frame after a gap.": what would be delivered were one more packet there already is delivered
+-- R11.5, against R4.7: what would be delivered were one more packet there already is delivered
 abbrev pub overGap : Call
 overGap l slots frame ms received =
     let ahead : After Outcome = frameTaken (withExpected l ((l .expected + 1) % 4)) slots frame ms received in
     cond (eqb (ahead .told .delivered) 0) (frameTaken l slots frame ms received) ahead
 
--- where the oldest packet is due and has been repeated TRANS_REPEAT times, the newer is looked at
+-- against R6.3: where the oldest packet is due and has been repeated TRANS_REPEAT times, the newer is looked at
 abbrev pub passesOver : LookCall
 passesOver l slots frame ms =
     let right : After Looked = looked l slots frame ms in
     cond (answers linkLost (outcomeOf right) && not (l .lost)) (looking (lookedNewer l slots frame ms)) right
 
--- 3 is for "link lost, now or before (all but start and resynchronise)": resynchronise answers it too
+-- against R5.9: where the link is lost, resynchronise answers 3 too
 abbrev pub staysLost : Bare
 staysLost = instead (answers done) (λ l slots frame right. cond (l .lost) (refused l linkLost slots frame) right) resynchronised
 
--- of look: no control ACK is sent, and the timer runs on
+-- against R6.2, of look: no control ACK is sent, and the timer runs on
 abbrev pub neverAcks : Change
 neverAcks = instead sendsControl (λ l slots frame right. refused l done slots frame)
 
@@ -475,14 +479,14 @@ takenHearing hear l slots frame ms received =
 abbrev pub TakenHearingTrue : Type 0
 TakenHearingTrue = takenHearing heard ≡ frameTaken
 
--- step 4, "Data frame with LEN 0": one with ACK is heard as any other
+-- against R4.4: where LEN is 0, a frame with ACK is heard as any other
 abbrev pub hearsEmpty : Format → List ℕ → Heard
 hearsEmpty format received =
     let number : ℕ = numberOf (fctrOf received) in
     let acknowledged : ℕ = acknowledgedOf (fctrOf received) in
     cond (sameBytes received (dataFrame format number acknowledged [])) (Data number false acknowledged 0) (heard format received)
 
--- step 1, "more than D": one byte more is heard
+-- against R4.1: one byte more than D is heard
 abbrev pub hearsLonger : Format → List ℕ → Heard
 hearsLonger format = heard (record { d = format .d + 1 })
 
@@ -508,15 +512,15 @@ lookedWhen test =
 abbrev pub LookedWhenTrue : Type 0
 LookedWhenTrue = lookedWhen due ≡ looked
 
--- "Comparing deadline and clock by size.": with a deadline that wraps a timer is due at once just before the wrap, ..
+-- R11.2, against R6.1: with a deadline that wraps a timer is due at once just before the wrap, ..
 abbrev pub bySizeWrapped : ℕ → ℕ → ℕ → Bool
 bySizeWrapped timeout start ms = leb ((start + timeout) % 4294967296) ms
 
--- .. with one that does not wrap a timer that is to be due past the wrap never is
+-- .. with one that does not wrap (R11.2, too) a timer that is to be due past the wrap never is
 abbrev pub bySize : ℕ → ℕ → ℕ → Bool
 bySize timeout start ms = leb (start + timeout) ms
 
--- elapsed time the wrong way round, of every timer ..
+-- against R6.1: elapsed time the wrong way round, of every timer ..
 abbrev pub backwards : ℕ → ℕ → ℕ → Bool
 backwards timeout start ms = due timeout ms start
 
@@ -524,17 +528,17 @@ backwards timeout start ms = due timeout ms start
 abbrev pub turned : Link → ℕ → ℕ → Bool
 turned l n ms = ltb n (l .waiting) && backwards (l .settings .transtimeout) (startOf l (sentBefore l n)) ms
 
--- .. with the acknowledge timeout; ..
+-- .. with the acknowledge timeout (against R2.1); ..
 abbrev pub early : Link → ℕ → ℕ → Bool
 early l n ms = ltb n (l .waiting) && due (l .settings .acktimeout) (startOf l (sentBefore l n)) ms
 
--- .. also where none waits, and the packet was freed
+-- .. also where none waits, and the packet was freed (against R6.2)
 abbrev pub freedToo : Link → ℕ → ℕ → Bool
 freedToo l n ms = leb n (l .waiting) && due (l .settings .transtimeout) (startOf l (sentBefore l n)) ms
 
 -- ---- wrong ends for which no run is known that breaks the statement of two ends (pair): the contracts alone shut them out
 
--- an accepted NAK k, in a frame of such an FCTR, is obeyed as it should be, and then taken as ACK k − 1, too
+-- R11.4, against R4.6: an accepted NAK k, in a frame of such an FCTR, is obeyed as it should be, and then taken as ACK k − 1, too
 abbrev pub nakFrees : (ℕ → Bool) → Call
 nakFrees kind l slots frame ms received =
     let right : After Outcome = frameTaken l slots frame ms received in
@@ -542,29 +546,30 @@ nakFrees kind l slots frame ms received =
     cond ((answers done right || answers unexpected right) && (isNak fctr && kind fctr))
     (leaving (freed (right .told .state) ((acknowledgedOf fctr + 3) % 4)) right) right
 
--- an ACK k that is to free two, the most that wait, frees so many: none, as if it were obeyed only where k is the oldest, or one
+-- R11.3, against R4.6: an ACK k that is to free two, the most that wait, frees so many: none, as if obeyed only where k is the oldest, or one
 abbrev pub freesOnly : ℕ → Call
 freesOnly freed =
     takeBut (instead (λ right. eqb (right .told .dropped) 0)
     (λ l slots frame right.
     leaving (cond (ltb (right .told .state .waiting + 1) (l .waiting)) (withWaiting (right .told .state) (l .waiting - freed)) (right .told .state)) right))
 
--- a NAK "is sent at most once until the next delivery": the mark outlives it
+-- against R4.8: the NAK mark outlives a delivery
 abbrev pub keepsMark : Call
 keepsMark =
     takeBut (instead (λ right. not (eqb (right .told .delivered) 0))
     (λ l slots frame right. leaving (withNakmark (right .told .state) (l .nakmark)) right))
 
--- step 7, "an ACK for the last correct number goes out", with something else sent
+-- against R4.7: with 9 something else is sent, or nothing
 abbrev pub forUnexpected : (Link → List ℕ → Sending) → Call
 forUnexpected send =
     takeBut (instead (λ right. answers unexpected right && sendsControl right)
     (λ l slots frame right. concluded (send (withAcking (right .told .state) (l .acking)) frame) unexpected 0 slots))
 
--- of look: no packet is repeated, and the link is lost instead
+-- against R6.3, of look: no packet is repeated, and the link is lost instead
 abbrev pub losesAtOnce : Change
 losesAtOnce = instead sendsData (λ l slots frame right. exhausted l slots frame)
 
+-- R11.3 (none is freed) and R11.4, and the others
 pub record ShutOutAlone : Type 0 where
   pub nak-frees : nakFrees isControl ≢ frameTaken
   pub nak-in-data-frees : nakFrees (λ fctr. not (isControl fctr)) ≢ frameTaken
@@ -656,6 +661,7 @@ pub record AcknowledgeShut : Type 0 where
   pub timer-left : timerLeft sendsControl acknowledgedNow ≢ acknowledgedNow
   pub nak-for-ack : nakForAck acknowledgedNow ≢ acknowledgedNow
 
+-- R13.3; R11.1, R11.2, R11.3 (one is freed) and R11.5; and the others
 pub record ShutOut : Type 0 where
   -- each of the five calls on a state
   pub refuses : (answer : ℕ) → answer ≢ done → Shows (refuse answer)

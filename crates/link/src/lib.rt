@@ -1,4 +1,4 @@
-// One end of the link: the six calls, each with all that it promises. None of them requires anything.
+// An end of the link: the six calls, each with all that it promises. None of them requires anything.
 pub mod chosen;
 
 use clock::Looked;

@@ -1,4 +1,4 @@
--- take, on every input. Document 01, "A received frame, in this order".
+-- take, on every input: R1.3, R4.5 to R4.10, R9.1. How steps 1 to 4 judge a frame is `heard` (frame); what comes of it is here.
 use Prim.Native.Nat.{ℕ}
 use mathlib.Core.Bool.{Bool, cond, _&&_}
 use mathlib.Core.List.{List}
@@ -15,33 +15,31 @@ use Rattle.state.specs.Calls.{becameFresh}
 use Rattle.send.specs.Makers.{Sending, silent, concluded, sendsRepeat, sendsAck, sendsNak}
 use Rattle.receive.specs.Steps.{freed, repeatable, afterStep6, afterDelivery}
 
--- "answer 6, NAK", "7, NAK"; what they leave: "NAK mark; NAK written if sent". "Steps 1 to 4 use nothing else of the frame.": none of its numbers
--- comes in.
+-- R4.8: the refusals of R4.1, R4.2 and R4.4; what they leave is in R8.6 and R8.7. R4.9: none of the frame's numbers comes in.
 abbrev pub refusedWithNak : Link → List ℕ → List ℕ → Heard → After Outcome
 refusedWithNak l slots frame h = concluded (sendsNak l frame) (refusalOf h) 0 slots
 
--- "If step 6 repeats a packet, its frame is made after step 7, with the last correct number as it then stands, and is the only frame sent."
--- The state is the one after step 7; what would be sent otherwise comes last.
+-- R4.10: the state is the one after step 7; what would be sent otherwise comes last
 abbrev pub repeatedOr : Bool → Link → List ℕ → List ℕ → ℕ → ℕ → Sending → Sending
 repeatedOr repeat l slots frame ms number otherwise = cond repeat (sendsRepeat l slots frame ms number) otherwise
 
--- step 6, of a control NAK
+-- R4.6, of a control NAK
 abbrev pub nakObeyed : Link → List ℕ → List ℕ → ℕ → ℕ → After Outcome
 nakObeyed l slots frame ms number = concluded (repeatedOr (repeatable l number) l slots frame ms number (silent l frame)) done 0 slots
 
--- "7. Data: if its number is the expected one, it is delivered (the packet is the frame from byte 3, LEN bytes) .. Otherwise 9, and an ACK for
--- the last correct number goes out. (Section 3.2 says NAK here; Table 3-2 says ACK and decides.)" With 9, "step 6 done; one frame written".
--- "Easy to get wrong": "Delivering the frame after a gap." Only the length is told: which bytes it means, packetIn (frame) says.
--- Each half is of the state after step 6, and of whether that step repeats packet `acknowledged`.
+-- R4.7 in two halves, each of the state after step 6, and of whether that step repeats packet `acknowledged`: a delivery, of which only the
+-- length is told (which bytes it means, packetIn (frame) says), ..
 abbrev pub dataDelivered : Link → List ℕ → List ℕ → ℕ → ℕ → Bool → ℕ → After Outcome
 dataDelivered sixth slots frame ms acknowledged repeat len =
     let seventh : Link = afterDelivery sixth ms in
     concluded (repeatedOr repeat seventh slots frame ms acknowledged (silent seventh frame)) done len slots
 
+-- .. and 9, to every number but the expected one, also to one behind a gap (R11.5); what it leaves is in R8.9
 abbrev pub dataPassed : Link → List ℕ → List ℕ → ℕ → ℕ → Bool → After Outcome
 dataPassed sixth slots frame ms acknowledged repeat =
     concluded (repeatedOr repeat sixth slots frame ms acknowledged (sendsAck sixth frame)) unexpected 0 slots
 
+-- R4.6, then R4.7, of a data frame
 unfoldable pub dataTaken : Link → List ℕ → List ℕ → ℕ → ℕ → Bool → ℕ → ℕ → After Outcome
 dataTaken l slots frame ms number nak acknowledged len =
     let repeat : Bool = nak && repeatable l acknowledged in
@@ -50,8 +48,8 @@ dataTaken l slots frame ms number nak acknowledged len =
     (dataDelivered sixth slots frame ms acknowledged repeat len)
     (dataPassed sixth slots frame ms acknowledged repeat)
 
--- steps 1 to 4 are decided by what was heard, 5 to 7 need the state; step 3 is "8, dropped, nothing sent"; "5. Reset: the end becomes fresh with
--- its settings kept, waiting packets are dropped, their count is told. Answer 0."
+-- steps 1 to 4 are decided by what was heard, 5 to 7 need the state. ControlSize is R4.3, and leaves what R8.8 says; the other refusals go by R4.8;
+-- Reset is R4.5. Only what no step refused brings numbers with it (R4.9).
 unfoldable pub obeyed : Link → List ℕ → List ℕ → ℕ → Heard → After Outcome
 unfolding dataTaken
 obeyed l slots frame ms Size = refusedWithNak l slots frame Size
@@ -64,7 +62,7 @@ obeyed l slots frame ms (Ack number) = concluded (silent (freed l number) frame)
 obeyed l slots frame ms (Nak number) = nakObeyed l slots frame ms number
 obeyed l slots frame ms (Data number nak acknowledged len) = dataTaken l slots frame ms number nak acknowledged len
 
--- "Order: link calls 1, 2, 3, then .. the frame steps"
+-- R1.3: take, behind the gate of R9.1
 unfoldable pub frameTaken : Link → List ℕ → List ℕ → ℕ → List ℕ → After Outcome
 unfolding gateOf heard obeyed
 frameTaken l slots frame ms received =

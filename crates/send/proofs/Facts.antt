@@ -72,7 +72,7 @@ again-written l slots before after number part len last sent p n k w =
     let same : part + len - part ≡ len = omega arith in
     subst (λ x. Written x before after sent) (rw (same, p, n, k)) w
 
--- a waiting packet that has been repeated fewer than TRANS_REPEAT times can be repeated
+-- a packet that waits, and whose count is below TRANS_REPEAT, can be repeated
 pub waiting-ready : (l : Link) (n slots frame : ℕ) → Open l slots frame → n < l .waiting → mayRepeat l (sentBefore l n) ≡ true → Ready l (sentBefore l n) slots frame
 waiting-ready l n slots frame o w e =
     let f : Formed l = o .entered .formed in

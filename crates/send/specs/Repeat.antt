@@ -1,4 +1,4 @@
--- A waiting packet: its bytes in the slot buffer, and what sending its frame does to the state. Document 01, "Sending".
+-- A waiting packet: its bytes in the slot buffer, and what sending its frame does to the state: R5.4 to R5.7.
 use Prim.Native.Nat.{ℕ, _+_, _*_, _≤_, _<_}
 use mathlib.Core.Bool.{Bool, false}
 use mathlib.Core.List.{List}
@@ -9,25 +9,25 @@ use Rattle.state.specs.Bounds.{limitOf}
 use Rattle.state.specs.Fields.{withStarts, withRepeated, withAcking}
 use Rattle.state.specs.State.{slotOf, lengthOf, repeatedOf}
 
--- "the slot's part of the lent buffer beginning where the slot begins"
+-- R5.4: where in the slot buffer the slot of this number begins
 abbrev pub partOf : Link → ℕ → ℕ
 partOf l number = slotOf l number * limitOf (l .settings)
 
--- the packet as it stands in its slot
+-- R5.4: the packet as it stands in its slot
 abbrev pub packetOf : Link → List ℕ → ℕ → List ℕ
 packetOf l slots number = take (lengthOf l number) (drop (partOf l number) slots)
 
--- "Each data frame, also a repeated one, carries ACK for the last correct number at that moment and stops the acknowledge timer." With it the
--- packet's timer starts, at its first sending and at each repeat.
+-- R5.6: the acknowledge timer stops. R5.5, R5.7: with the frame the packet's timer starts, at its first sending and at each repeat. count: how
+-- often it was sent again by then.
 abbrev pub dataSent : Link → ℕ → ℕ → ℕ → Link
 dataSent l number ms count =
     withAcking (withRepeated (withStarts l (set (l .starts) (slotOf l number) ms)) (set (l .repeated) (slotOf l number) count)) false
 
--- "A repeat adds 1 to its count and restarts its timer."
+-- R5.7
 abbrev pub again : Link → ℕ → ℕ → Link
 again l number ms = dataSent l number ms (repeatedOf l number + 1)
 
--- "has been repeated fewer than TRANS_REPEAT times"
+-- R4.6, R6.3: whether it may be sent once more
 abbrev pub mayRepeat : Link → ℕ → Bool
 mayRepeat l number = ltb (repeatedOf l number) (l .settings .repeats)
 

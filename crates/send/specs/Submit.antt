@@ -1,4 +1,4 @@
--- submit, on every input. Document 01, "Sending" and "Numbers returned".
+-- submit, on every input: R1.3, R2.5, R5.4 to R5.6, R9.1.
 use Prim.Native.Nat.{ℕ, _+_, _%_, _≤_, _<_}
 use mathlib.Core.Bool.{cond}
 use mathlib.Core.List.{List}
@@ -16,31 +16,30 @@ use Rattle.state.specs.State.{lastCorrect, slotOf}
 use Rattle.state.specs.Gate.{After, after, gated, gateOf}
 use Rattle.send.specs.Repeat.{partOf, dataSent}
 
--- 4, "packet of 0 or more than m bytes"; 5, "WIN_SIZE packets wait"
+-- R8.4, then R8.5: of a packet's length, which may be any (R2.5)
 abbrev pub packetGate : Link → ℕ → ℕ
 packetGate l packet =
     firstOf (cond (within 1 packet (limitOf (l .settings))) done packetSize) (cond (ltb (l .waiting) (l .settings .window)) done windowFull)
 
--- "Order: link calls 1, 2, 3, then 4, 5"
+-- R9.1: of a state and the lengths of slot buffer, frame buffer and packet
 unfoldable pub submitGate : Link → ℕ → ℕ → ℕ → ℕ
 unfolding gateOf
 submitGate l slots frame packet = firstOf (gateOf l slots frame) (packetGate l packet)
 
--- one more packet waits, of this length, under the next number
+-- R5.5: one more packet waits, of this length, under the next number
 abbrev pub added : Link → ℕ → Link
 added l packet =
     withWaiting (withNext (withLengths l (set (l .lengths) (slotOf l (l .next)) packet)) ((l .next + 1) % 4)) (l .waiting + 1)
 
--- "It sends the frame, starts that packet's timer, and sets its repeat count to 0."
+-- R5.5: the state that is left, for a packet of this length
 abbrev pub sentFirst : Link → ℕ → ℕ → Link
 sentFirst l ms packet = added (dataSent l (l .next) ms 0) packet
 
--- "Each data frame, also a repeated one, carries ACK for the last correct number at that moment"
+-- R5.5: the packet's frame, with the ACK of R5.6
 abbrev pub firstFrame : Link → List ℕ → List ℕ
 firstFrame l packet = dataFrame (l .settings .format) (l .next) (lastCorrect l) packet
 
--- "Submit copies the packet to the slot numbered (frame number modulo WIN_SIZE), the slot's part of the lent buffer beginning where the slot
--- begins; every other byte stays."
+-- R5.4, R5.5: all that is left where nothing refuses
 abbrev pub packetAccepted : Link → List ℕ → List ℕ → ℕ → List ℕ → After Outcome
 packetAccepted l slots frame ms packet =
     after (record {
@@ -66,6 +65,7 @@ Acceptable l slots frame packet =
 
 -- ---- the call
 
+-- R1.3: submit, behind the gate of R9.1
 unfoldable pub submitted : Link → List ℕ → List ℕ → ℕ → List ℕ → After Outcome
 unfolding submitGate
 submitted l slots frame ms packet =

@@ -61,7 +61,7 @@ fn repeated_of(l: Link, number: u8) -> u8
     l.repeated[slot]
 }
 
-// Whether a packet has been repeated fewer than TRANS_REPEAT times.
+// Whether a packet may be sent once more: its count is below TRANS_REPEAT.
 pub fn may_repeat(l: Link, number: u8) -> bool
     requires { ⌜ (1 ≤ l .settings .window) × (l .settings .window ≤ 2) ⌝ }
     ensures { λ r. ⌜ r ≡ mayRepeat l number ⌝ }
@@ -127,7 +127,7 @@ fn stop_acknowledging(l: Link) -> Link
     k
 }
 
-// Sends a control ACK for the last correct number.
+// Sends a control ACK of the last correct number.
 pub fn send_ack(l: Link, frame: &mut [u8]) -> Sent
     requires { ⌜ 5 ≤ length (now frame) ⌝ }
     ensures { λ r. ⌜ sending r (now (frame .exit)) ≡ sendsAck l (now (frame .entry)) ⌝ }
@@ -189,7 +189,7 @@ fn add(l: Link, packet: u16) -> Link
     k
 }
 
-// The slot's part of the slot buffer, m bytes from where the slot begins, is lent onward to the copier.
+// R12.2: the part that is lent on to the copier is m bytes, from where the slot begins.
 fn store(l: Link, slots: &mut [u8], packet: &[u8])
     requires { ⌜ ((1 ≤ l .settings .window) × (l .settings .window ≤ 2)) × ((length (now packet) ≤ limitOf (l .settings)) × (partOf l (l .next) + limitOf (l .settings) ≤ length (now slots))) ⌝ }
     ensures { λ _. ⌜ now (slots .exit) ≡ put (now (slots .entry)) (partOf l (l .next)) (now (packet .entry)) ⌝ }
