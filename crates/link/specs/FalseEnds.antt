@@ -329,7 +329,7 @@ dataBut change =
 abbrev pub numberZero : List ℕ → List ℕ
 numberZero bytes = set bytes 0 (fctrOf bytes % 4)
 
--- R11.1, against R5.6: ACK of the number before the last correct one
+-- against R5.6: ACK of the number before the last correct one, as a frame that was kept may have it (R11.1)
 abbrev pub stale : List ℕ → List ℕ
 stale bytes = set bytes 0 (fctrOf bytes / 4 * 4 + (fctrOf bytes + 3) % 4)
 

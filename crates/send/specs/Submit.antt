@@ -39,7 +39,7 @@ sentFirst l ms packet = added (dataSent l (l .next) ms 0) packet
 abbrev pub firstFrame : Link → List ℕ → List ℕ
 firstFrame l packet = dataFrame (l .settings .format) (l .next) (lastCorrect l) packet
 
--- R5.4, R5.5: all that is left where nothing refuses
+-- R5.4, R5.5, and R1.4 for the frame: all that is left where nothing refuses
 abbrev pub packetAccepted : Link → List ℕ → List ℕ → ℕ → List ℕ → After Outcome
 packetAccepted l slots frame ms packet =
     after (record {

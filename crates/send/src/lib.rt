@@ -53,6 +53,7 @@ fn length_of(l: Link, number: u8) -> usize
     l.lengths[slot] as usize
 }
 
+// R12.5: indexed by the slot.
 fn repeated_of(l: Link, number: u8) -> u8
     requires { ⌜ (1 ≤ l .settings .window) × (l .settings .window ≤ 2) ⌝ }
     ensures { λ r. ⌜ r ≡ repeatedOf l number ⌝ }

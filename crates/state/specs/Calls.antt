@@ -18,7 +18,7 @@ use Rattle.state.specs.Gate.{After, after, only, gated, entryOf}
 abbrev pub zeros : Link
 zeros = freshOf (record { format = record { d = 0 }; transtimeout = 0; acktimeout = 0; window = 0; repeats = 0 })
 
--- R1.3: start, of the settings and the length of the slot buffer; it asks in the order of R9.1
+-- R1.3: start, of the settings and the length of the slot buffer; it asks in the order of R9.1, and gives a fresh end (R5.2)
 unfoldable pub started : Settings → ℕ → Outcome
 unfolding inRange freshOf
 started s slots =
@@ -28,7 +28,7 @@ started s slots =
 abbrev pub becameFresh : Link → ℕ → Outcome
 becameFresh l sent = record { state = renewed l; sent = sent; delivered = 0; dropped = l .waiting; answer = done }
 
--- R5.9, behind its gate
+-- R5.9, behind its gate; the frame as R1.4 has it
 abbrev pub resetSent : Link → List ℕ → List ℕ → After Outcome
 resetSent l slots frame =
     let bytes : List ℕ = resetFrame (l .settings .format) in
