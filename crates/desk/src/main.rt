@@ -90,14 +90,30 @@ fn main() {
     let mut ms: u32 = 4294967290;
     let mut turns: u32 = 20;
     while 0 < turns {
+        turns -= 1;
         let to_desk = carried(&chip_frame, chip.last.sent, ms);
-        desk = turn::serve(desk, &mut desk_slots, &mut desk_frame, ms, to_desk, &LOAN);
+        desk = turn::serve(
+            desk,
+            &mut desk_slots,
+            &mut desk_frame,
+            ms,
+            to_desk,
+            &LOAN,
+            false,
+        );
         tell(DESK, ms, desk.last.sent);
         let to_chip = carried(&desk_frame, desk.last.sent, ms);
-        chip = turn::serve(chip, &mut chip_slots, &mut chip_frame, ms, to_chip, b"");
+        chip = turn::serve(
+            chip,
+            &mut chip_slots,
+            &mut chip_frame,
+            ms,
+            to_chip,
+            b"",
+            joining.opened,
+        );
         joining = obey(joining, to_chip, chip.last.delivered, &mut room, ms);
         tell(CHIP, ms, chip.last.sent);
         ms = std::num::wrapping_add_u32(ms, 10);
-        turns -= 1;
     }
 }

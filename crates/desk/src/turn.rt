@@ -1,4 +1,4 @@
-// What to copy: the settings, the lengths of the buffers, one turn of the loop, and what is done about its answer.
+// What to copy: the settings, the lengths of the buffers, and one turn of the loop. docs/USE.md prints parts of it.
 use crate::ANSWER;
 use crate::tell;
 use base::answer;
@@ -8,7 +8,7 @@ use state::Link;
 use state::Outcome;
 use state::Settings;
 
-// DATA_REG_LEN
+// D, that is DATA_REG_LEN
 pub const FRAME: usize = 277;
 
 // WIN_SIZE
@@ -19,10 +19,10 @@ pub const PACKET: usize = FRAME - 5;
 
 pub const SLOTS: usize = WINDOW * PACKET;
 
-// For the longest message, whatever the settings.
+// The longest message has as many bytes, whatever the settings.
 pub const ROOM: usize = 4096;
 
-// The other end needs the same: TRANS_TIMEOUT and the acknowledge timeout in milliseconds, TRANS_REPEAT.
+// Milliseconds, and TRANS_REPEAT. The other end needs the same.
 pub const SETTINGS: Settings = Settings {
     format: Format { d: FRAME as u16 },
     transtimeout: 100,
@@ -31,7 +31,7 @@ pub const SETTINGS: Settings = Settings {
     repeats: 3,
 };
 
-// What the last call gave, and how many packets of the message are taken.
+// What the last call of an end gave, with its state, and how many packets of its message it has taken.
 pub struct End {
     pub last: Outcome,
     pub taken: u32,
@@ -43,7 +43,8 @@ pub fn start(slots: &[u8]) -> End {
     End { last, taken: 0 }
 }
 
-// One call. What has arrived comes first, since it may make room for the packet.
+// One call. What has arrived comes first, since it may make room for the packet. In a hurry: the peer has more to send, and should
+// not wait for our timer.
 pub fn turn(
     end: Link,
     slots: &mut [u8],
@@ -51,42 +52,44 @@ pub fn turn(
     ms: u32,
     received: &[u8],
     packet: &[u8],
+    hurry: bool,
 ) -> Outcome {
+    if end.lost {
+        return link::resynchronise(end, slots, frame, ms);
+    }
     if 0 < received.len() {
         return link::take(end, slots, frame, ms, received);
     }
     if (0 < packet.len()) & (end.waiting < end.settings.window) {
         return link::submit(end, slots, frame, ms, packet);
     }
+    if hurry & end.acking {
+        return link::acknowledge(end, slots, frame, ms);
+    }
     let looked = link::look(end, slots, frame, ms);
     looked.outcome
 }
 
-// Whatever the answer, the state goes on, and a frame of `sent` bytes is to be sent.
-fn heed(o: Outcome, slots: &[u8], frame: &mut [u8], ms: u32) -> Outcome {
-    let answer = o.answer;
+// A lost link is the next turn's to mend. The others are for people: the bus or the peer is bad, or this program is wrong.
+fn heed(answer: u8, ms: u32) {
     match answer {
         answer::DONE => {}
-        // The packet does not count as taken, so a later turn hands it in again.
-        answer::WINDOW_FULL => {}
-        answer::LINK_LOST => return link::resynchronise(o.state, slots, frame, ms),
+        answer::LINK_LOST => {}
         _ => tell(ANSWER, ms, answer as u16),
     }
-    o
 }
 
-// Only a submit makes more packets wait. Where some were dropped the message begins again; they may have arrived, so that the other side's
-// program must know the message by a number in it.
+// Only a submit that is done makes more packets wait. Where some were dropped the message begins again; they may have arrived, so it
+// needs a number in it, by which the other side's program knows it.
 fn count(e: End, o: Outcome) -> u32 {
     let more = e.last.state.waiting < o.state.waiting;
-    let dropped = o.dropped;
-    match dropped {
-        0 => std::num::wrapping_add_u32(e.taken, more as u32),
-        _ => 0,
+    match o.dropped == 0 {
+        true => std::num::wrapping_add_u32(e.taken, more as u32),
+        false => 0,
     }
 }
 
-// Once round the loop. Behind the message's last packet cut gives one of 0 bytes.
+// Once round the loop, with the next packet of the message. Behind its last one cut gives one of 0 bytes.
 pub fn serve(
     e: End,
     slots: &mut [u8; SLOTS],
@@ -94,12 +97,13 @@ pub fn serve(
     ms: u32,
     received: &[u8],
     message: &[u8],
+    hurry: bool,
 ) -> End {
     let mut packet = [0u8; PACKET];
     let piece = chain::cut(PACKET as u16, message, e.taken, &mut packet);
     let next = part(&packet, 0, piece.length as usize);
-    let o = turn(e.last.state, slots, frame, ms, received, next);
-    let last = heed(o, slots, frame, ms);
+    let last = turn(e.last.state, slots, frame, ms, received, next, hurry);
+    heed(last.answer, ms);
     End {
         last,
         taken: count(e, last),
