@@ -3,8 +3,8 @@ mod turn;
 
 use base::buffer::part;
 use chain::Joining;
-use frame::Heard;
 use text::lay;
+use turn::End;
 use turn::FRAME;
 use turn::ROOM;
 use turn::SLOTS;
@@ -64,13 +64,14 @@ fn join(j: Joining, packet: &[u8], room: &mut [u8; ROOM], ms: u32) -> Joining {
     joined.state
 }
 
-// Behind a reset the desk begins its message again: the packets of before are in no chain with those that come.
-fn obey(j: Joining, received: &[u8], delivered: u16, room: &mut [u8; ROOM], ms: u32) -> Joining {
+// At an end that is fresh again no packet that comes belongs to those of before.
+fn obey(j: Joining, chip: End, received: &[u8], room: &mut [u8; ROOM], ms: u32) -> Joining {
+    let renewed = chip.renewed;
+    let delivered = chip.last.delivered;
     tell(DELIVERED, ms, delivered);
-    let heard = frame::hear(turn::SETTINGS.format, received);
-    match heard {
-        Heard::Reset => chain::fresh_joining(),
-        _ => match delivered {
+    match renewed {
+        true => chain::fresh_joining(),
+        false => match delivered {
             0 => j,
             _ => join(j, part(received, 3, delivered as usize), room, ms),
         },
@@ -86,7 +87,7 @@ fn main() {
     let mut desk = turn::start(&desk_slots);
     let mut chip = turn::start(&chip_slots);
     let mut joining = chain::fresh_joining();
-    // The clock wraps behind the first turn; the loan takes 18.
+    // The clock wraps behind the first turn. The loan is through, and acknowledged, after 18.
     let mut ms: u32 = 4294967290;
     let mut turns: u32 = 20;
     while 0 < turns {
@@ -112,7 +113,7 @@ fn main() {
             b"",
             joining.opened,
         );
-        joining = obey(joining, to_chip, chip.last.delivered, &mut room, ms);
+        joining = obey(joining, chip, to_chip, &mut room, ms);
         tell(CHIP, ms, chip.last.sent);
         ms = std::num::wrapping_add_u32(ms, 10);
     }

@@ -4,6 +4,7 @@ use crate::tell;
 use base::answer;
 use base::buffer::part;
 use frame::Format;
+use frame::Heard;
 use state::Link;
 use state::Outcome;
 use state::Settings;
@@ -31,16 +32,21 @@ pub const SETTINGS: Settings = Settings {
     repeats: 3,
 };
 
-// What the last call of an end gave, with its state, and how many packets of its message it has taken.
+// What the last call of an end gave, with its state; how many packets of its message it has taken; whether the call made it fresh.
 pub struct End {
     pub last: Outcome,
     pub taken: u32,
+    pub renewed: bool,
 }
 
 // A start that is refused leaves a state to which every turn answers 1.
 pub fn start(slots: &[u8]) -> End {
     let last = link::start(SETTINGS, slots);
-    End { last, taken: 0 }
+    End {
+        last,
+        taken: 0,
+        renewed: true,
+    }
 }
 
 // One call. What has arrived comes first, since it may make room for the packet. In a hurry: the peer has more to send, and should
@@ -79,17 +85,26 @@ fn heed(answer: u8, ms: u32) {
     }
 }
 
-// Only a submit that is done makes more packets wait. Where some were dropped the message begins again; they may have arrived, so it
-// needs a number in it, by which the other side's program knows it.
-fn count(e: End, o: Outcome) -> u32 {
-    let more = e.last.state.waiting < o.state.waiting;
-    match o.dropped == 0 {
-        true => std::num::wrapping_add_u32(e.taken, more as u32),
-        false => 0,
+// A turn makes a lost end fresh, and so does a reset that comes in. How many packets were dropped does not tell it: maybe none waited.
+fn is_renewed(end: Link, received: &[u8]) -> bool {
+    let heard = frame::hear(SETTINGS.format, received);
+    match heard {
+        Heard::Reset => true,
+        _ => end.lost,
     }
 }
 
-// Once round the loop, with the next packet of the message. Behind its last one cut gives one of 0 bytes.
+// Only a submit that is done makes more packets wait. At an end that is fresh again the message begins again; what it had taken may have
+// arrived, so the message needs a number in it, by which the other side's program knows it.
+fn count(e: End, o: Outcome, renewed: bool) -> u32 {
+    let more = e.last.state.waiting < o.state.waiting;
+    match renewed {
+        true => 0,
+        false => std::num::wrapping_add_u32(e.taken, more as u32),
+    }
+}
+
+// Once round the loop, with the next packet of the message. Behind its last one, and where there is no message, cut gives 0 bytes.
 pub fn serve(
     e: End,
     slots: &mut [u8; SLOTS],
@@ -102,10 +117,12 @@ pub fn serve(
     let mut packet = [0u8; PACKET];
     let piece = chain::cut(PACKET as u16, message, e.taken, &mut packet);
     let next = part(&packet, 0, piece.length as usize);
+    let renewed = is_renewed(e.last.state, received);
     let last = turn(e.last.state, slots, frame, ms, received, next, hurry);
     heed(last.answer, ms);
     End {
         last,
-        taken: count(e, last),
+        taken: count(e, last, renewed),
+        renewed,
     }
 }
