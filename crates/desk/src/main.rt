@@ -3,11 +3,12 @@ mod turn;
 
 use base::buffer::part;
 use chain::Joining;
+use state::Outcome;
 use text::lay;
-use turn::End;
 use turn::FRAME;
 use turn::ROOM;
 use turn::SLOTS;
+use turn::Turn;
 
 // Two packets.
 const LOAN: [u8; 300] =
@@ -18,30 +19,34 @@ const LOAN: [u8; 300] =
 // What is on its way at this millisecond is lost.
 const NOISE: u32 = 4;
 
-// The lines of tell, in their order there.
+// The lines of tell, in their order there; those of the chip behind the desk's.
 const DESK: usize = 0;
 
-const CHIP: usize = 1;
+const CHIP: usize = 3;
 
-const LOST: usize = 2;
+const LOST: usize = 6;
 
-const ANSWER: usize = 3;
+const JOINED: usize = 7;
 
-const DELIVERED: usize = 4;
-
-const WHOLE: usize = 5;
+const WHOLE: usize = 8;
 
 fn tell(what: usize, ms: u32, number: u16) {
     match number {
         0 => {}
         _ => lay::write_chosen(
-            b"[%] desk sends % bytes\n|[%] chip sends % bytes\n|[%] % bytes are lost on the way\n|[%] answer %\n|[%] chip delivers % bytes\n|[%] chip has the loan, % bytes, as it was sent\n",
+            b"[%] the desk answers %\n|[%] the desk gets % bytes\n|[%] the desk sends % bytes\n|[%] the chip answers %\n|[%] the chip gets % bytes\n|[%] the chip sends % bytes\n|[%] % bytes are lost on the way\n|[%] joining answers %\n|[%] the chip has the loan, % bytes, as it was sent\n",
             what,
             ms as u64,
             number as u64,
             0,
         ),
     }
+}
+
+fn tell_turn(who: usize, ms: u32, o: Outcome) {
+    tell(who, ms, o.answer as u16);
+    tell(std::num::wrapping_add_usize(who, 1), ms, o.delivered);
+    tell(std::num::wrapping_add_usize(who, 2), ms, o.sent);
 }
 
 fn carried(frame: &[u8; FRAME], sent: u16, ms: u32) -> &[u8] {
@@ -54,28 +59,14 @@ fn carried(frame: &[u8; FRAME], sent: u16, ms: u32) -> &[u8] {
     }
 }
 
-fn join(j: Joining, packet: &[u8], room: &mut [u8; ROOM], ms: u32) -> Joining {
-    let joined = chain::join(turn::PACKET as u16, j, packet, room);
-    tell(ANSWER, ms, joined.answer as u16);
+fn joined_by(j: Joining, t: Turn, received: &[u8], room: &mut [u8; ROOM], ms: u32) -> Joining {
+    let joined = turn::join(j, t, received, room);
+    tell(JOINED, ms, joined.answer as u16);
     match check::same(part(room, 0, joined.length as usize), &LOAN) {
         true => tell(WHOLE, ms, joined.length),
         false => {}
     }
     joined.state
-}
-
-// At an end that is fresh again no packet that comes belongs to those of before.
-fn obey(j: Joining, chip: End, received: &[u8], room: &mut [u8; ROOM], ms: u32) -> Joining {
-    let renewed = chip.renewed;
-    let delivered = chip.last.delivered;
-    tell(DELIVERED, ms, delivered);
-    match renewed {
-        true => chain::fresh_joining(),
-        false => match delivered {
-            0 => j,
-            _ => join(j, part(received, 3, delivered as usize), room, ms),
-        },
-    }
 }
 
 fn main() {
@@ -102,7 +93,7 @@ fn main() {
             &LOAN,
             false,
         );
-        tell(DESK, ms, desk.last.sent);
+        tell_turn(DESK, ms, desk.last);
         let to_chip = carried(&desk_frame, desk.last.sent, ms);
         chip = turn::serve(
             chip,
@@ -113,8 +104,8 @@ fn main() {
             b"",
             joining.opened,
         );
-        joining = obey(joining, chip, to_chip, &mut room, ms);
-        tell(CHIP, ms, chip.last.sent);
+        tell_turn(CHIP, ms, chip.last);
+        joining = joined_by(joining, chip, to_chip, &mut room, ms);
         ms = std::num::wrapping_add_u32(ms, 10);
     }
 }
