@@ -127,7 +127,7 @@ impl State {
                 .all(|number| (1..=limit).contains(&self.length[self.slot(number)]))
     }
 
-    /// The waiting packet that looking at the clock serves: the oldest if due, else the newer.
+    /// R6.2: the waiting packet that is to be served.
     #[inline]
     fn due(&self, now: u32) -> Option<u8> {
         let timeout = self.settings.transmit_timeout;
@@ -217,8 +217,8 @@ fn refusal_or_lost(state: &State, slots: &[u8], frame: &[u8]) -> Option<u8> {
     refusal(state, slots, frame).or(state.lost.then_some(answer::LINK_LOST))
 }
 
-/// Every data frame carries ACK for the last correct number of this moment and
-/// stops the acknowledge timer, whose start time stays.
+/// R5.6, R5.8: made of this moment's numbers; the acknowledge timer is off, and its start time
+/// stays.
 #[inline]
 fn send_data(state: &mut State, number: u8, packet: &[u8], frame: &mut [u8]) -> u16 {
     state.acking = false;
@@ -239,7 +239,7 @@ fn repeat(state: &mut State, number: u8, slots: &[u8], frame: &mut [u8], now: u3
     send_data(state, number, packet, frame)
 }
 
-/// Every control ACK stops the acknowledge timer.
+/// R4.11.
 #[inline]
 fn send_ack(state: &mut State, frame: &mut [u8]) -> u16 {
     state.acking = false;
@@ -328,8 +328,7 @@ pub fn take(
     }
 }
 
-/// Steps 1, 2 and 4. The NAK names the expected number, goes out at most once until the
-/// next delivery and leaves the acknowledge timer alone.
+/// Steps 1, 2 and 4: the NAK of R4.8, which leaves the acknowledge timer alone (R4.11).
 fn object(mut state: State, frame: &mut [u8], answer: u8) -> Outcome {
     if state.nak_mark {
         return Outcome::plain(state, answer);

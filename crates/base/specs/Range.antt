@@ -7,5 +7,6 @@ use lib.Dec.{leb, ltb}
 abbrev pub within : ℕ → ℕ → ℕ → Bool
 within low x high = leb low x && leb x high
 
+-- for R6.6
 abbrev pub leastOf : ℕ → ℕ → ℕ
 leastOf a b = cond (ltb a b) a b

@@ -50,7 +50,7 @@ packetsOf m channel message = packetsTo m channel message (packetCount m (length
 
 -- ---- the call
 
--- R9.2: 13 and 16, of m, the length of the message, which may be any (R2.5), and i
+-- R9.2: 13 (R2.3, R8.13) and 16 (R8.16), of m, the length of the message, which may be any (R2.5), and i
 unfoldable pub messageGate : ℕ → ℕ → ℕ → ℕ
 messageGate m message i =
     firstOf (cond (within 1 message longest) done messageSize) (cond (ltb i (packetCount m message)) done noSuchPacket)

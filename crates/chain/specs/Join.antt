@@ -20,7 +20,7 @@ freshJoining = record { length = 0; opened = false }
 abbrev pub closed : Joining → Joining
 closed j = record { length = 0; opened = false }
 
--- .. and of one that goes on, with so many bytes joined
+-- R7.8: .. and of one that goes on, with so many bytes joined
 abbrev pub grown : Joining → ℕ → Joining
 grown j total = record { length = total; opened = true }
 
@@ -120,7 +120,7 @@ partTold j chain size = record {
 abbrev pub partAdded : Joining → List ℕ → ℕ → List ℕ → Joins
 partAdded j packet chain room = joins (partTold j chain (length packet)) (put room (placeOf j chain) (drop 1 packet))
 
--- the channel is the packet's: nothing here reads it from the packet
+-- R7.5, R7.7, behind the row of 11; the channel is the packet's: nothing here reads it from the packet
 unfoldable pub partJoined : ℕ → ℕ → Joining → List ℕ → List ℕ → Joins
 unfolding chainGate
 partJoined m channel j packet room =
@@ -129,7 +129,7 @@ partJoined m channel j packet room =
 
 -- ---- the call
 
--- R1.6: join
+-- R1.6: join, which refuses in the order of R7.5
 unfoldable pub joined : ℕ → Joining → List ℕ → List ℕ → Joins
 unfolding joinGate partJoined
 joined m j packet room =

@@ -1,6 +1,6 @@
 -- What is promised of cutting and joining beyond the calls' contracts: R2.2, R13.1, R13.2, R14.1, R14.2; proofs/Chains.antt and
--- proofs/Rejoining.antt prove it. CutsAll, RejoinsAll and NoneBefore serve demand 2 (R14.2), in which chaining is to be right at the sending end and
--- the receiving end alike: the first ties packetsOf to the call cut, the others to the call join. LimitsAgree and PacketsSized are for R1.1, by which
+-- proofs/Rejoining.antt prove it. CutsAll, RejoinsAll and NoneBefore serve demand 2 (R14.2), in which chaining is to be right on both
+-- sides: the first ties packetsOf to the call cut, the others to the call join. LimitsAgree and PacketsSized are for R1.1, by which
 -- chaining stands on the link.
 use Prim.Native.Nat.{ℕ, zero, suc, _-_, _<_, _≤_}
 use mathlib.Core.Bool.{true, false, cond}

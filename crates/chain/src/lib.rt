@@ -11,20 +11,20 @@ ghost use Rattle.chain.specs.Pctr.{pctrOf};
 ghost use Rattle.chain.specs.Cut.{limitOk, partSize, packetCount, chainAt, partAt, messageGate, cutGate, cutting, given, cutOut};
 ghost use Rattle.chain.specs.Join.{freshJoining, closed, grown, joins, dropsChain, faultOf, refusal, packetGate, joinGate, faulty, placeOf, totalOf, chainGate, partTold, partAdded, partJoined, joined};
 
-// What cut tells of a packet.
+// R1.6: what cut tells of a packet.
 pub struct Piece {
     pub count: u16,
     pub length: u16,
     pub answer: u8,
 }
 
-// What is kept of a message whose packets are being joined.
+// R7.4: what is kept of a message whose packets are being joined.
 pub struct Joining {
     pub length: u16,
     pub opened: bool,
 }
 
-// What join tells: with answer 10 also the packet that tells the peer of it, as a number.
+// R1.6, R7.6: what join tells: with answer 10 also the packet that tells the peer of it, as a number.
 pub struct Joined {
     pub state: Joining,
     pub length: u16,
@@ -38,10 +38,10 @@ const MOST_LIMIT: u16 = 1019;
 
 const LONGEST: usize = 4096;
 
-// The one channel that is built.
+// R1.1: the one channel that is built.
 const CHANNEL: u8 = 0;
 
-// CHAIN
+// CHAIN: R7.2, R7.3, R7.5
 const WHOLE: u8 = 0;
 
 const FIRST: u8 = 1;
@@ -130,7 +130,7 @@ fn lay(packet: &mut [u8], pctr: u8, part: &[u8])
     buffer::copy_at(packet, 1, part);
 }
 
-// Lays part i of the message behind its PCTR, and gives the part's length.
+// R7.3: lays part i of the message behind its PCTR, and gives the part's length.
 fn lay_part(m: u16, message: &[u8], i: usize, pctr: u8, packet: &mut [u8]) -> usize
     requires { ⌜ ((11 ≤ m) × (m ≤ 1019)) × (length (now message) ≤ 4096) × (m ≤ length (now packet)) × (i * partSize m < length (now message)) ⌝ }
     ensures { λ r. ⌜ (r ≡ length (partAt m (now (message .entry)) i)) × (r ≤ 1018) × (now (packet .exit) ≡ put (now (packet .entry)) 0 (pctr ∷ partAt m (now (message .entry)) i)) ⌝ }
@@ -156,7 +156,7 @@ fn give(m: u16, channel: u8, message: &[u8], i: usize, packet: &mut [u8]) -> Pie
     }
 }
 
-// Gives packet i of a message, if there is one.
+// R1.6: gives packet i of a message, if there is one.
 pub fn cut(m: u16, message: &[u8], i: u32, packet: &mut [u8]) -> Piece
     ensures { λ r. ⌜ cutting r (now (packet .exit)) ≡ cutOut m (now (message .entry)) i (now (packet .entry)) ⌝ }
 {
@@ -173,7 +173,7 @@ pub fn cut(m: u16, message: &[u8], i: u32, packet: &mut [u8]) -> Piece
 
 // ---- join: refusals
 
-// A joining to begin with: no chain open.
+// R7.4: a joining to begin with.
 pub fn fresh_joining() -> Joining
     ensures { λ r. ⌜ r ≡ freshJoining ⌝ }
 {
@@ -345,7 +345,7 @@ fn join_part(m: u16, channel: u8, j: Joining, packet: &[u8], room: &mut [u8]) ->
 
 // ---- join
 
-// Joins one packet to what is joined, if nothing stands against it.
+// R1.6: joins one packet to what is joined, if nothing of R7.5 stands against it.
 pub fn join(m: u16, j: Joining, packet: &[u8], room: &mut [u8]) -> Joined
     ensures { λ r. ⌜ joins r (now (room .exit)) ≡ joined m j (now (packet .entry)) (now (room .entry)) ⌝ }
 {

@@ -16,7 +16,7 @@ use Rattle.clock.specs.declared.Looked.{Looked}
 
 -- ---- a due packet
 
--- how many packets were sent after the oldest waiting one (0 where none waits)
+-- R6.2: how many packets were sent after the oldest waiting one (0 where none waits)
 abbrev pub afterOldest : Link → ℕ
 afterOldest l = l .waiting - 1
 

@@ -144,7 +144,7 @@ pretend call l slots frame =
     let right : After Outcome = call l slots frame in
     cond (eqb (l .next) 0) right (after (right .told) slots frame)
 
--- R13.3, pretending: all is written and told as it should be, and the state stays
+-- beside the five: all is written and told as it should be, and the state stays
 abbrev pub stay : Change
 stay = instead (answers done) (λ l slots frame right. leaving l right)
 
@@ -325,7 +325,7 @@ dataBut change =
     instead sendsData
     (λ l slots frame right. writing (sealed (l .settings .format) (change (take (right .told .sent - 2) (right .frame)))) right)
 
--- against R3.5: number 0, whatever the packet's is
+-- against R5.5: number 0, whatever the packet's is
 abbrev pub numberZero : List ℕ → List ℕ
 numberZero bytes = set bytes 0 (fctrOf bytes % 4)
 

@@ -50,7 +50,7 @@ pub record Played {State : Type 0} (calls : Calls State) (ms : ℕ) (S : System 
 abbrev pub RoundsExist : {State : Type 0} → Calls State → Type 0
 RoundsExist {State} calls = (s : Settings) (S : System State) (ms n : ℕ) → Moment calls s S → IsClock ms → Played calls ms S n
 
--- the whole, as a predicate of a link
+-- R13.5, R13.6: the whole, as a predicate of a link
 pub record Demand3 {State : Type 0} (calls : Calls State) : Type 0 where
   pub first : FirstSoMany calls
   pub within : Within24 calls

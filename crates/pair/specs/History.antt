@@ -1,4 +1,4 @@
--- A history of any link written as a list of steps, for the computed runs of wrong links. Desk, chip and loans are the customer's.
+-- A history of any link (moves of R14.3) written as a list of steps, for the computed runs of wrong links. Desk, chip and loans are the customer's.
 use Prim.Native.Nat.{ℕ, _%_}
 use mathlib.Core.List.{List, [], _∷_, _++_}
 use Rattle.pair.specs.System.{Calls, System, swap, submits, takes, looks, acknowledges, withQueue, freshSide}

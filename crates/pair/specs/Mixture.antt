@@ -1,5 +1,5 @@
--- Round.antt looks at one end until it sends nothing, and then at the other. Looks that take turns in any way leave the same, of any link, since a
--- look reads no queue and changes nothing of the other end but the queue towards it.
+-- R6.5, last: Round.antt looks at one end as often as it must, and then at the other. Looks that take turns in any way leave the same, of any
+-- link, since a look reads no queue and changes nothing of the other end but the queue towards it.
 use Prim.Native.Nat.{ℕ}
 use mathlib.Core.Bool.{Bool, true, false}
 use mathlib.Core.Path.{_≡_}
@@ -7,7 +7,7 @@ use mathlib.Core.List.{List}
 use Rattle.pair.specs.System.{Calls, System, swap, lookOf, looks}
 use Rattle.pair.specs.Round.{Enough, Looks}
 
--- looks at both ends in any order, each end until it sends nothing; the two marks say which end has come to that, here and there
+-- looks at both ends in any order, each as often as it must; the two marks say which end has come to that, here and there
 pub data Mixed {State : Type 0} (calls : Calls State) (ms : ℕ) : Bool → Bool → System State → System State → Type 0 where
   over : (S : System State) → Mixed calls ms true true S S
   here-sends : (S T : System State) (there : Bool) (frame : List ℕ) → Enough calls S frame → (lookOf calls S frame ms .told .sent ≡ 0 → ⊥)

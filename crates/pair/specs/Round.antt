@@ -14,7 +14,7 @@ use Rattle.pair.specs.System.{Calls, System, swap, seenBoth, takes, look
 abbrev pub Enough : {State : Type 0} → Calls State → System State → List ℕ → Type 0
 Enough calls S frame = frameNeed (calls .seen (S .here .state) .settings) ≤ length frame
 
--- R6.5, first: one frame is carried; and any number, of the two queues in any mixture
+-- R6.5, first: one frame is carried; and any number, of either queue in any turn
 pub data Carried {State : Type 0} (calls : Calls State) (ms : ℕ) (S : System State) : System State → Type 0 where
   head : (frame received : List ℕ) (rest : List (List ℕ)) → Enough calls S frame → S .here .queue ≡ received ∷ rest → Carried calls ms S (takes calls S frame ms received rest)
 

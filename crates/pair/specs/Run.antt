@@ -1,4 +1,4 @@
--- One run, played out: a frame lost, one damaged, a NAK, and a clock that wraps; then rounds until everything is through. Nobody asked for it; it
+-- One run of R14.4, played out: a frame lost, one damaged, a NAK, and a clock that wraps; then rounds until everything is through. Nobody asked for it; it
 -- shows that the statements of Demand3.antt speak of something: such moments, rounds and ends exist. Desk, chip and loans are the customer's.
 use Prim.Native.Nat.{ℕ}
 use mathlib.Core.List.{List, [], _∷_}

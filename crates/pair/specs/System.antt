@@ -17,7 +17,7 @@ use Rattle.state.specs.Gate.{After}
 
 -- ---- a link
 
--- what a call tells that a history is read off: the next state, the lengths of the frame sent and of the packet delivered, and the answer
+-- R1.5, what a history is read off: the next state, how long the frame sent is and the packet delivered, and the answer
 pub record Told (State : Type 0) : Type 0 where
   pub state : State
   pub sent : ℕ
@@ -69,19 +69,19 @@ seenBoth calls S = record { here = seenSide calls (S .here); there = seenSide ca
 
 -- ---- a call of the end here
 
--- the frame that it sent: as many bytes of the frame buffer as it tells
+-- R1.4: the frame that went out, so many bytes of the frame buffer as it tells
 abbrev pub sentBy : {State : Type 0} → After (Told State) → List (List ℕ)
 sentBy a = cond (eqb (a .told .sent) 0) [] (take (a .told .sent) (a .frame) ∷ [])
 
--- the packet that it delivered: as many bytes of the received frame, from byte 3 on, as it tells
+-- R4.7: the packet that it delivered, so many bytes of the received frame, from byte 3 on, as it tells
 abbrev pub deliveredBy : {State : Type 0} → After (Told State) → List ℕ → List (List ℕ)
 deliveredBy a received = cond (eqb (a .told .delivered) 0) [] (packetIn received (a .told .delivered) ∷ [])
 
--- the packet that submit took: it answered 0
+-- R14.3: the packet that submit took: it answered 0
 abbrev pub takenBy : {State : Type 0} → After (Told State) → List ℕ → List (List ℕ)
 takenBy a packet = cond (eqb (a .told .answer) done) (packet ∷ []) []
 
--- what is left of the queue. Our choice, no rule: who lent too short a buffer (answer 2) hands the frame over again; any other answer uses it up.
+-- R8.2 (DECISIONS D25): what is left of the queue. After 2 the frame is handed over again; any other answer uses it up.
 abbrev pub leftBy : {State : Type 0} → After (Told State) → List ℕ → List (List ℕ) → List (List ℕ)
 leftBy a received rest = cond (eqb (a .told .answer) shortBuffer) (received ∷ rest) rest
 
@@ -146,7 +146,7 @@ withQueue S queue = record { here = requeued (S .here) queue; there = S .there }
 abbrev pub IsClock : ℕ → Type 0
 IsClock ms = ms < 4294967296
 
--- one move of the end here or of the queue towards it, with any millisecond and a frame buffer of any bytes and any length. A resynchronise that
+-- R14.3: one move of the end here or of the queue towards it, with any millisecond and a frame buffer of any bytes and any length. A resynchronise that
 -- is refused is one; one that is done is none: what the demand speaks of is then over, until both ends are fresh and nothing is on its way.
 pub data Move {State : Type 0} (calls : Calls State) (S : System State) : System State → Type 0 where
   submit : (frame packet : List ℕ) (ms : ℕ) → IsClock ms → Move calls S (submits calls S frame ms packet)
@@ -158,7 +158,7 @@ pub data Move {State : Type 0} (calls : Calls State) (S : System State) : System
 
 -- ---- moments
 
--- an end as start gives it with answer 0, the queue towards it empty
+-- R14.3: an end as start gives it with answer 0, the queue towards it empty
 abbrev pub freshSide : {State : Type 0} → Calls State → Settings → List ℕ → Side State
 freshSide calls s slots = record { state = calls .fresh s; slots = slots; queue = []; taken = []; delivered = [] }
 

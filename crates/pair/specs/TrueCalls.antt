@@ -1,4 +1,4 @@
--- The true link: the calls by their contracts. What System, Round and Demand3 say of any link stands here of this one, under the same names, so
+-- The true link: the calls of R1.3, by their contracts. What System, Round and Demand3 say of any link stands here of this one, under the same names, so
 -- that what is proved of it need not name it.
 use Prim.Native.Nat.{ℕ}
 use mathlib.Core.List.{List}
@@ -49,7 +49,7 @@ withTake call = linkOf submitted call looked acknowledgedNow resynchronised
 abbrev pub withLook : LookCall → Calls Link
 withLook call = linkOf submitted frameTaken call acknowledgedNow resynchronised
 
--- and whose ends begin as start leaves them
+-- R5.2, R14.3: and whose ends begin as start leaves them
 abbrev pub StartsFresh : Type 0
 StartsFresh = (s : Settings) (slots : ℕ) → started s slots .answer ≡ done → started s slots .state ≡ trueCalls .fresh s
 

@@ -1,4 +1,4 @@
-// take: what a received frame does.
+// take: what a received frame does, R4.
 use base::answer;
 use frame::Heard;
 use send::Sent;
@@ -17,7 +17,7 @@ ghost use Rattle.send.specs.Repeat.{Ready};
 ghost use Rattle.receive.specs.Steps.{freed, repeatable, afterStep6, afterDelivery};
 ghost use Rattle.receive.specs.Take.{refusedWithNak, repeatedOr, nakObeyed, dataDelivered, dataPassed, dataTaken, obeyed, frameTaken};
 
-// ---- step 6
+// ---- step 6: R4.6
 
 fn free(l: Link, number: u8) -> Link
     requires { ⌜ number ≤ 3 ⌝ }
@@ -49,7 +49,7 @@ fn obey_acknowledgement(l: Link, nak: bool, number: u8) -> Link
     free(l, number)
 }
 
-// ---- step 7
+// ---- step 7: R4.7
 
 fn deliver(l: Link, ms: u32) -> Link
     requires { ⌜ l .expected ≤ 3 ⌝ }
@@ -188,7 +188,7 @@ fn obey(l: Link, slots: &[u8], frame: &mut [u8], ms: u32, h: Heard) -> Outcome
     }
 }
 
-// Obeys a received frame, and sends at most one.
+// R1.3: obeys a received frame, and sends at most one.
 pub fn take(l: Link, slots: &[u8], frame: &mut [u8], ms: u32, received: &[u8]) -> Outcome
     ensures { λ r. ⌜ after r (now (slots .entry)) (now (frame .exit)) ≡ frameTaken l (now (slots .entry)) (now (frame .entry)) ms (now (received .entry)) ⌝ }
 {

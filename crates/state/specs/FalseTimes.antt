@@ -8,7 +8,7 @@ use Rattle.state.specs.declared.Link.{Link}
 use Rattle.state.specs.State.{wellFormed}
 use Rattle.state.specs.Timer.{noTimer, packetLeft, acknowledgeLeft, timeLeft}
 
--- the older packet's is read off the newer one's timer, and so never the least
+-- against R6.6: the older packet's is read off the newer one's timer, and so never the least
 abbrev pub newerTwice : Link → ℕ → ℕ
 newerTwice l ms = cond (wellFormed l) (leastOf (packetLeft l 0 ms) (acknowledgeLeft l ms)) noTimer
 

@@ -52,7 +52,7 @@ abbrev pub Usable : Link → ℕ → Type 0
 Usable l frame =
     ((1 ≤ l .settings .window) × (l .settings .window ≤ 2)) × ((l .next ≤ 3) × (l .expected ≤ 3) × (l .waiting ≤ 2)) × (5 ≤ frame)
 
--- a state whose arrays have two elements, as every state has that code can hold, and that is well formed: a list with no place for a slot would
+-- R14.1: a state whose arrays have two elements, as every state has that code can hold, and that is well formed: a list with no place for a slot would
 -- lose what is stored there (DECISIONS D80)
 pub record Sound (l : Link) : Type 0 where
   pub starts : length (l .starts) ≡ 2

@@ -27,7 +27,7 @@ only l answer = record { state = l; sent = 0; delivered = 0; dropped = 0; answer
 abbrev pub refused : Link → ℕ → List ℕ → List ℕ → After Outcome
 refused l answer slots frame = after (only l answer) slots frame
 
--- a call behind its gate: nothing but the gate's answer, unless that is 0
+-- R9.1: a call behind its gate: nothing but the gate's answer, unless that is 0
 abbrev pub gated : ℕ → Link → List ℕ → List ℕ → After Outcome → After Outcome
 gated answer l slots frame inside = cond (eqb answer done) inside (refused l answer slots frame)
 

@@ -1,4 +1,4 @@
--- Time that has passed, and timers: R6.1, R6.2.
+-- Time that has passed, and timers: R6.1, R6.2, R6.6.
 use Prim.Native.Nat.{ℕ, _+_, _-_, _%_}
 use mathlib.Core.Bool.{Bool, cond, _&&_}
 use lib.Dec.{eqb, ltb}
@@ -47,7 +47,7 @@ packetLeft l n ms = cond (ltb n (l .waiting)) (left (l .settings .transtimeout) 
 abbrev pub acknowledgeLeft : Link → ℕ → ℕ
 acknowledgeLeft l ms = cond (l .acking) (left (l .settings .acktimeout) (l .ackstart) ms) noTimer
 
--- the least time left over all running timers, 0 where one is due. Of a state that every call refuses with 1 no timer is read.
+-- R6.6: 0 where a timer is due. Of a state that every call refuses with 1 no timer is read.
 unfoldable pub timeLeft : Link → ℕ → ℕ
 unfolding wellFormed
 timeLeft l ms =
