@@ -38,7 +38,7 @@ joins told room = record { told = told; room = room }
 abbrev pub faultPacket : ℕ → ℕ
 faultPacket channel = pctrOf channel fault
 
--- R8.10, R8.14, R8.15: the answers that drop the chain; every other refusal leaves it
+-- R8.10, R8.14, R8.15: the answers that drop the chain; every other refusal leaves it (R9.4)
 abbrev pub dropsChain : ℕ → Bool
 dropsChain answer = eqb answer chainFault || (eqb answer tooLong || eqb answer faultTold)
 

@@ -23,7 +23,7 @@ after r slots frame = record { told = r; slots = slots; frame = frame }
 abbrev pub only : Link → ℕ → Outcome
 only l answer = record { state = l; sent = 0; delivered = 0; dropped = 0; answer = answer }
 
--- R8: a refusal that leaves all as it was
+-- R8, R9.4: a refusal that leaves all as it was
 abbrev pub refused : Link → ℕ → List ℕ → List ℕ → After Outcome
 refused l answer slots frame = after (only l answer) slots frame
 
