@@ -16,10 +16,12 @@ const LOAN: [u8; 300] =
     Lent on 2 May at 9:14 and due on 30 May; twice as long if nobody else asks for it. \
     When lent, the spine was worn, page 135 was loose, and the map was in the pocket of its back cover, folded in two.";
 
-// What is on its way at this millisecond is lost.
-const NOISE: u32 = 4;
+// From here on all that is on its way is lost, for so many milliseconds: just long enough that the link is lost too.
+const NOISE: u32 = 14;
 
-// The lines of tell, in their order there; those of the chip behind the desk's.
+const NOISY: u32 = 400;
+
+// The texts of tell by their places. DESK and CHIP are the first of three: what an end answers, gets and sends. 0 is not told.
 const DESK: usize = 0;
 
 const CHIP: usize = 3;
@@ -30,11 +32,13 @@ const JOINED: usize = 7;
 
 const WHOLE: usize = 8;
 
+const WRONG: usize = 9;
+
 fn tell(what: usize, ms: u32, number: u16) {
     match number {
         0 => {}
         _ => lay::write_chosen(
-            b"[%] the desk answers %\n|[%] the desk gets % bytes\n|[%] the desk sends % bytes\n|[%] the chip answers %\n|[%] the chip gets % bytes\n|[%] the chip sends % bytes\n|[%] % bytes are lost on the way\n|[%] joining answers %\n|[%] the chip has the loan, % bytes, as it was sent\n",
+            b"[%] the desk answers %\n|[%] the desk gets % bytes\n|[%] the desk sends % bytes\n|[%] the chip answers %\n|[%] the chip gets % bytes\n|[%] the chip sends % bytes\n|[%] % bytes are lost on the way\n|[%] joining answers %\n|[%] the chip has the loan, % bytes, as it was sent\n|[%] the chip has a message of % bytes that nobody sent\n",
             what,
             ms as u64,
             number as u64,
@@ -50,12 +54,12 @@ fn tell_turn(who: usize, ms: u32, o: Outcome) {
 }
 
 fn carried(frame: &[u8; FRAME], sent: u16, ms: u32) -> &[u8] {
-    match ms {
-        NOISE => {
+    match std::num::wrapping_sub_u32(ms, NOISE) < NOISY {
+        true => {
             tell(LOST, ms, sent);
             part(frame, 0, 0)
         }
-        _ => part(frame, 0, sent as usize),
+        false => part(frame, 0, sent as usize),
     }
 }
 
@@ -64,7 +68,7 @@ fn joined_by(j: Joining, t: Turn, received: &[u8], room: &mut [u8; ROOM], ms: u3
     tell(JOINED, ms, joined.answer as u16);
     match check::same(part(room, 0, joined.length as usize), &LOAN) {
         true => tell(WHOLE, ms, joined.length),
-        false => {}
+        false => tell(WRONG, ms, joined.length),
     }
     joined.state
 }
@@ -75,24 +79,15 @@ fn main() {
     let mut desk_frame = [0u8; FRAME];
     let mut chip_frame = [0u8; FRAME];
     let mut room = [0u8; ROOM];
-    let mut desk = turn::start(&desk_slots);
-    let mut chip = turn::start(&chip_slots);
-    let mut joining = chain::fresh_joining();
-    // The clock wraps behind the first turn. The loan is through, and acknowledged, after 18.
+    // The clock wraps after the first turn.
     let mut ms: u32 = 4294967290;
-    let mut turns: u32 = 20;
+    let mut turns: u32 = 60;
+    let mut chip = turn::start(&chip_slots);
+    let started = turn::start(&desk_slots);
+    let mut desk = turn::renew(started, &desk_slots, &mut desk_frame, ms);
+    let mut joining = chain::fresh_joining();
     while 0 < turns {
         turns -= 1;
-        let to_desk = carried(&chip_frame, chip.last.sent, ms);
-        desk = turn::serve(
-            desk,
-            &mut desk_slots,
-            &mut desk_frame,
-            ms,
-            to_desk,
-            &LOAN,
-            false,
-        );
         tell_turn(DESK, ms, desk.last);
         let to_chip = carried(&desk_frame, desk.last.sent, ms);
         chip = turn::serve(
@@ -106,6 +101,16 @@ fn main() {
         );
         tell_turn(CHIP, ms, chip.last);
         joining = joined_by(joining, chip, to_chip, &mut room, ms);
+        let to_desk = carried(&chip_frame, chip.last.sent, ms);
         ms = std::num::wrapping_add_u32(ms, 10);
+        desk = turn::serve(
+            desk,
+            &mut desk_slots,
+            &mut desk_frame,
+            ms,
+            to_desk,
+            &LOAN,
+            false,
+        );
     }
 }

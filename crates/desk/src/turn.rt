@@ -1,10 +1,10 @@
 // What to copy: the settings, the lengths of the buffers, one turn of the loop at an end, and what becomes of a packet that it delivers.
-// docs/USE.md prints parts of it.
+// docs/USE.md prints it, and says what a caller must add: pauses and an end of trying where the link is lost, and what 10 and 15 ask for.
+use base::answer;
 use base::buffer::part;
 use chain::Joined;
 use chain::Joining;
 use frame::Format;
-use frame::Heard;
 use state::Link;
 use state::Outcome;
 use state::Settings;
@@ -23,7 +23,10 @@ pub const SLOTS: usize = WINDOW * PACKET;
 // The longest message has as many bytes, whatever the settings.
 pub const ROOM: usize = 4096;
 
-// Milliseconds, and TRANS_REPEAT. The other end needs the same.
+// The FCTR of a reset
+const RESET: u8 = 0xC0;
+
+// Milliseconds, and TRANS_REPEAT, for a bus of 400 kHz. The other end needs the same.
 const SETTINGS: Settings = Settings {
     format: Format { d: FRAME as u16 },
     transtimeout: 100,
@@ -32,10 +35,11 @@ const SETTINGS: Settings = Settings {
     repeats: 3,
 };
 
-// What a turn leaves: all that its call gave, the end's state in it; how many packets of the message are taken; and whether it made the
-// end fresh.
+// What a turn leaves: all that its call gave, the end's state in it; what cut answered; how many packets of the message are taken; and
+// whether the end was made fresh, so that what came in before is to be thrown away.
 pub struct Turn {
     pub last: Outcome,
+    pub cut: u8,
     pub taken: u32,
     pub renewed: bool,
 }
@@ -45,13 +49,25 @@ pub fn start(slots: &[u8]) -> Turn {
     let last = link::start(SETTINGS, slots);
     Turn {
         last,
+        cut: 0,
         taken: 0,
         renewed: true,
     }
 }
 
-// What has arrived comes first, since it may make room for the packet. In a hurry: the peer has more to send, and should not wait for
-// our timer.
+// To begin, and where the peer's program does not answer in time: both ends are to be fresh. The frame is to be sent.
+pub fn renew(t: Turn, slots: &[u8], frame: &mut [u8], ms: u32) -> Turn {
+    let last = link::resynchronise(t.last.state, slots, frame, ms);
+    Turn {
+        last,
+        cut: 0,
+        taken: 0,
+        renewed: true,
+    }
+}
+
+// What has arrived comes first, since it may make room for the packet; a lost end would not hear it. In a hurry: the peer has more to
+// send, and should not wait for our timer.
 fn one_call(
     l: Link,
     slots: &mut [u8],
@@ -77,13 +93,16 @@ fn one_call(
     looked.outcome
 }
 
-// A turn makes a lost end fresh, and so does a reset that comes in. How many packets were dropped does not tell it: maybe none waited.
-fn is_renewed(l: Link, received: &[u8]) -> bool {
-    let heard = frame::hear(SETTINGS.format, received);
-    match heard {
-        Heard::Reset => true,
-        _ => l.lost,
+fn is_reset(received: &[u8]) -> bool {
+    if received.len() == 5 {
+        return received[0] == RESET;
     }
+    false
+}
+
+// A turn that is done makes a lost end fresh, and so does a reset that comes in. `dropped` does not show it: it is 0 if nothing waited.
+fn is_renewed(l: Link, received: &[u8], answer: u8) -> bool {
+    (l.lost | is_reset(received)) & (answer == answer::DONE)
 }
 
 // Only a submit that is done makes more packets wait. At an end that is fresh again the message begins again; what it had taken may have
@@ -96,7 +115,8 @@ fn count(t: Turn, o: Outcome, renewed: bool) -> u32 {
     }
 }
 
-// Once round the loop, with the next packet of the message. Where all are taken (16) or there is no message (13), cut gives 0 bytes.
+// Once round the loop. The message is the same in every turn until the peer's program has answered it, then b"", and `taken` is set to 0
+// with each new one. Where all its packets are taken (16), or there is none (13), cut gives 0 bytes; 13 also means that it is too long.
 pub fn serve(
     t: Turn,
     slots: &mut [u8; SLOTS],
@@ -109,16 +129,17 @@ pub fn serve(
     let mut packet = [0u8; PACKET];
     let piece = chain::cut(PACKET as u16, message, t.taken, &mut packet);
     let next = part(&packet, 0, piece.length as usize);
-    let renewed = is_renewed(t.last.state, received);
     let last = one_call(t.last.state, slots, frame, ms, received, next, hurry);
+    let renewed = is_renewed(t.last.state, received, last.answer);
     Turn {
         last,
+        cut: piece.answer,
         taken: count(t, last, renewed),
         renewed,
     }
 }
 
-fn unchanged(j: Joining) -> Joined {
+fn nothing_joined(j: Joining) -> Joined {
     Joined {
         state: j,
         length: 0,
@@ -127,14 +148,15 @@ fn unchanged(j: Joining) -> Joined {
     }
 }
 
-// What a turn delivers goes to the message. At an end that is fresh again no packet belongs to those of before.
+// For every turn, also where nothing was delivered: at an end that is fresh again no packet belongs to those of before. The peer must be
+// told of a `fault`; here it is not.
 pub fn join(j: Joining, t: Turn, received: &[u8], room: &mut [u8; ROOM]) -> Joined {
     let renewed = t.renewed;
     let delivered = t.last.delivered as usize;
     match renewed {
-        true => unchanged(chain::fresh_joining()),
+        true => nothing_joined(chain::fresh_joining()),
         false => match delivered {
-            0 => unchanged(j),
+            0 => nothing_joined(j),
             _ => chain::join(PACKET as u16, j, part(received, 3, delivered), room),
         },
     }
