@@ -44,9 +44,7 @@ pub struct Turn {
     pub renewed: bool,
 }
 
-// A start that is refused leaves a state to which every turn answers 1.
-pub fn start(slots: &[u8]) -> Turn {
-    let last = link::start(SETTINGS, slots);
+fn begun(last: Outcome) -> Turn {
     Turn {
         last,
         cut: 0,
@@ -55,15 +53,14 @@ pub fn start(slots: &[u8]) -> Turn {
     }
 }
 
+// A start that is refused leaves a state to which every turn answers 1.
+pub fn start(slots: &[u8]) -> Turn {
+    begun(link::start(SETTINGS, slots))
+}
+
 // To begin, and where the peer's program does not answer in time: both ends are to be fresh. The frame is to be sent.
 pub fn renew(t: Turn, slots: &[u8], frame: &mut [u8], ms: u32) -> Turn {
-    let last = link::resynchronise(t.last.state, slots, frame, ms);
-    Turn {
-        last,
-        cut: 0,
-        taken: 0,
-        renewed: true,
-    }
+    begun(link::resynchronise(t.last.state, slots, frame, ms))
 }
 
 // What has arrived comes first, since it may make room for the packet; a lost end would not hear it. In a hurry: the peer has more to
