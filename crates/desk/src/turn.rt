@@ -35,11 +35,10 @@ const SETTINGS: Settings = Settings {
     repeats: 3,
 };
 
-// What a turn leaves: all that its call gave, the end's state in it; what cut answered; how many packets of the message are taken; and
-// whether the end was made fresh, so that what came in before is to be thrown away.
+// What a turn leaves: all that its call gave, the end's state in it; how many packets of the message are taken; and whether the end was
+// made fresh, so that what came in before is to be thrown away.
 pub struct Turn {
     pub last: Outcome,
-    pub cut: u8,
     pub taken: u32,
     pub renewed: bool,
 }
@@ -47,7 +46,6 @@ pub struct Turn {
 fn begun(last: Outcome) -> Turn {
     Turn {
         last,
-        cut: 0,
         taken: 0,
         renewed: true,
     }
@@ -113,7 +111,7 @@ fn count(t: Turn, o: Outcome, renewed: bool) -> u32 {
 }
 
 // Once round the loop. The message is the same in every turn until the peer's program has answered it, then b"", and `taken` is set to 0
-// with each new one. Where all its packets are taken (16), or there is none (13), cut gives 0 bytes; 13 also means that it is too long.
+// with each new one. Where all its packets are taken (16), or there is none (13), cut gives 0 bytes; so it does of one that is too long.
 pub fn serve(
     t: Turn,
     slots: &mut [u8; SLOTS],
@@ -130,7 +128,6 @@ pub fn serve(
     let renewed = is_renewed(t.last.state, received, last.answer);
     Turn {
         last,
-        cut: piece.answer,
         taken: count(t, last, renewed),
         renewed,
     }
