@@ -60,7 +60,7 @@ faultTold = 15
 abbrev pub otherChannel : ℕ
 otherChannel = 11
 
--- R8.12: a secured packet, which nothing here reads
+-- R8.12: a secured packet that begins a message
 abbrev pub securedPacket : ℕ
 securedPacket = 12
 
@@ -72,7 +72,7 @@ messageSize = 13
 abbrev pub noSuchPacket : ℕ
 noSuchPacket = 16
 
--- ---- a received frame; from here on R9.4: until its rule comes, an added number changes nothing
+-- ---- R9.4, numbers for calls to come: a received frame
 
 -- a frame of fewer than 5 or more than D bytes
 abbrev pub frameSize : ℕ

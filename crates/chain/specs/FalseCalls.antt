@@ -152,8 +152,8 @@ joinSparing m j packet room =
     let longer : Joins = joined m j packet (room ++ (0 ∷ [])) in
     joins (longer .told) (take (length room) (longer .room))
 
--- another state with an answer: against R8.11 and R8.12, 11 or 12 that drops the chain (with 12 none is open, or it were 10: what a state may still
--- have is a length), ..
+-- another state with an answer: against R8.11 and R8.12, 11 or 12 that drops the chain (with 12 no chain is open, else it would be 10: what a state may
+-- still have is a length), ..
 abbrev pub dropsWith : ℕ → JoinCall
 dropsWith answer = joinBut (λ j room right. cond (eqb (right .told .answer) answer) (leaving (closed j) (right .told .length) right) right)
 

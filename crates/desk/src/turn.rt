@@ -5,6 +5,7 @@ use base::buffer::part;
 use chain::Joined;
 use chain::Joining;
 use frame::Format;
+use frame::Heard;
 use state::Link;
 use state::Outcome;
 use state::Settings;
@@ -22,9 +23,6 @@ pub const SLOTS: usize = WINDOW * PACKET;
 
 // The longest message has as many bytes, whatever the settings.
 pub const ROOM: usize = 4096;
-
-// The FCTR of a reset
-const RESET: u8 = 0xC0;
 
 // Milliseconds, and TRANS_REPEAT, for a bus of 400 kHz. The other end needs the same.
 const SETTINGS: Settings = Settings {
@@ -89,10 +87,11 @@ fn one_call(
 }
 
 fn is_reset(received: &[u8]) -> bool {
-    if received.len() == 5 {
-        return received[0] == RESET;
+    let heard = frame::hear(SETTINGS.format, received);
+    match heard {
+        Heard::Reset => true,
+        _ => false,
     }
-    false
 }
 
 // A turn that is done makes a lost end fresh, and so does a reset that comes in. `dropped` does not show it: it is 0 if nothing waited.
@@ -137,7 +136,7 @@ fn nothing_joined(j: Joining) -> Joined {
     Joined {
         state: j,
         length: 0,
-        answer: 0,
+        answer: answer::DONE,
         fault: 0,
     }
 }
