@@ -12,7 +12,7 @@ use crate::script::{read, ChainOutcome, Command, Lines, LinkCommand, Reading, Ri
 const ANSWERS: [(&str, &[u8]); 8] = [
     ("start", &[0, 1, 2]),
     ("submit", &[0, 1, 2, 3, 4, 5]),
-    ("take", &[0, 1, 2, 3, 6, 7, 8, 9]),
+    ("take", &[0, 1, 2, 3, 6, 7, 8, 9, 17, 18]),
     ("look", &[0, 1, 2, 3]),
     ("acknowledge", &[0, 1, 2, 3]),
     ("resynchronise", &[0, 1, 2]),
@@ -169,7 +169,7 @@ impl Tally {
     fn note_take(&mut self, before: &State, frame: &[u8], outcome: &Outcome) {
         let sent = outcome.sent > 0;
         match outcome.answer {
-            answer::DAMAGED | answer::UNUSED_CODE => {
+            answer::FRAME_SIZE | answer::FRAME_SUM | answer::UNUSED_CODE | answer::FRAME_LENGTH => {
                 self.event("nak-sent", sent);
                 self.event("nak-suppressed", !sent);
             }

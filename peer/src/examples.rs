@@ -3,7 +3,6 @@
 
 use std::io::{self, BufRead, Write};
 
-use crate::answer;
 use crate::checksum::checksum;
 use crate::frame::{hear, Heard};
 use crate::script::{
@@ -107,19 +106,9 @@ fn right_side(asked: &Left<'_>, rig: &mut Rig, out: &mut Vec<u8>) {
 
 /// NUMBER WORDS
 fn heard_side(heard: Heard, out: &mut Vec<u8>) {
-    numbers(&[refusal(heard).into()], out);
+    numbers(&[heard.refusal().into()], out);
     out.push(b' ');
     out.extend_from_slice(words(heard).as_bytes());
-}
-
-/// The number that steps 1 to 4 refuse a frame with, 0 if they let it pass.
-fn refusal(heard: Heard) -> u8 {
-    match heard {
-        Heard::Size | Heard::Sum | Heard::Length => answer::DAMAGED,
-        Heard::Code => answer::UNUSED_CODE,
-        Heard::ControlSize => answer::CONTROL_SIZE,
-        Heard::Reset | Heard::Ack(_) | Heard::Nak(_) | Heard::Data(_) => answer::DONE,
-    }
 }
 
 fn words(heard: Heard) -> String {

@@ -1,5 +1,6 @@
 //! Frames: FCTR, LEN (high byte first), the packet, FCS (low byte first).
 
+use crate::answer;
 use crate::checksum::checksum;
 
 /// What a frame adds to its packet: FCTR, LEN and FCS.
@@ -7,8 +8,7 @@ pub const OVERHEAD: u16 = 5;
 
 pub const RESET_FRAME: [u8; 5] = [0xC0, 0x00, 0x00, 0x9A, 0x0A];
 
-/// A received frame after steps 1 to 4. Size, Sum and Length are all answered 6,
-/// but are apart here because they are different steps.
+/// A received frame after steps 1 to 4: what they refuse it for, or what it says.
 #[derive(Clone, Copy, Debug, PartialEq, Eq)]
 pub enum Heard {
     Size,
@@ -20,6 +20,21 @@ pub enum Heard {
     Ack(u8),
     Nak(u8),
     Data(Data),
+}
+
+impl Heard {
+    /// R4.1 to R4.4: the number that they refuse the frame with, 0 if they let it pass.
+    #[inline]
+    pub fn refusal(self) -> u8 {
+        match self {
+            Heard::Size => answer::FRAME_SIZE,
+            Heard::Sum => answer::FRAME_SUM,
+            Heard::Code => answer::UNUSED_CODE,
+            Heard::ControlSize => answer::CONTROL_SIZE,
+            Heard::Length => answer::FRAME_LENGTH,
+            Heard::Reset | Heard::Ack(_) | Heard::Nak(_) | Heard::Data(_) => answer::DONE,
+        }
+    }
 }
 
 /// A data frame that passed step 4; its packet is `length` bytes from byte 3.
@@ -50,7 +65,7 @@ pub fn nak_code(number: u8) -> u8 {
 
 #[inline]
 pub fn hear(frame: &[u8], data_reg_len: u16) -> Heard {
-    // Step 1 tests the size first, so that no checksum runs over more than D bytes.
+    // R4.1: the size decides before the checksum, which so never runs over more than D bytes.
     let Some(length) = packet_room(frame.len(), data_reg_len) else {
         return Heard::Size;
     };

@@ -305,10 +305,12 @@ pub fn take(
     if let Some(answer) = refusal_or_lost(&state, slots, frame) {
         return Outcome::plain(state, answer);
     }
-    match frame::hear(received, state.settings.data_reg_len) {
-        Heard::Size | Heard::Sum | Heard::Length => object(state, frame, answer::DAMAGED),
-        Heard::Code => object(state, frame, answer::UNUSED_CODE),
-        Heard::ControlSize => Outcome::plain(state, answer::CONTROL_SIZE),
+    let heard = frame::hear(received, state.settings.data_reg_len);
+    match heard {
+        Heard::Size | Heard::Sum | Heard::Code | Heard::Length => {
+            object(state, frame, heard.refusal())
+        }
+        Heard::ControlSize => Outcome::plain(state, heard.refusal()),
         Heard::Reset => Outcome {
             dropped: state.waiting,
             ..Outcome::plain(State::fresh(state.settings), answer::DONE)

@@ -43,7 +43,7 @@ fn example_7() {
     assert_eq!(checksum(&[0; 3]), 0);
     let mut bench = Bench::fresh(settings());
     let outcome = bench.take(0, &[0; 5]);
-    assert_eq!(outcome.answer, 6);
+    assert_eq!(outcome.answer, 18);
     assert_eq!(bench.sent(&outcome), EXAMPLE_4);
 }
 

@@ -3,8 +3,8 @@
 
 mod common;
 
-use common::{control, data, one_slot, settings, Bench, FRAME_FILL, SLOT_FILL};
-use peer::link::{self, Settings, State};
+use common::{control, data, one_slot, sealed, settings, Bench, FRAME_FILL, SLOT_FILL};
+use peer::link::{self, Outcome, Settings, State};
 use peer::random::Random;
 
 fn with(change: impl FnOnce(&mut Settings)) -> Settings {
@@ -303,8 +303,13 @@ fn row_5_full_windows() {
 }
 
 #[test]
-fn rows_6_and_7_leave_the_nak_mark() {
-    for (frame, answer) in [(vec![], 6), (control(0x84), 7), (control(0x00), 6)] {
+fn rows_6_7_17_and_18_leave_the_nak_mark() {
+    for (frame, answer) in [
+        (vec![0x80, 0, 0, 0, 0], 6),
+        (control(0x84), 7),
+        (vec![], 17),
+        (control(0x00), 18),
+    ] {
         let mut bench = Bench::waiting(settings(), 1);
         bench.state.acking = true;
         let before = bench.clone();
@@ -320,6 +325,86 @@ fn rows_6_and_7_leave_the_nak_mark() {
         let before = bench.clone();
         let outcome = bench.take(0, &frame);
         before.assert_untouched(&bench, &outcome, answer, "the mark is set");
+    }
+}
+
+/// Any end that is not lost, with whatever may wait.
+fn any_hearing(random: &mut Random) -> Bench {
+    let settings = Settings {
+        data_reg_len: random.u16_between(16, 40),
+        window: random.u8_between(1, 2),
+        ..settings()
+    };
+    let limit = settings.packet_limit();
+    let mut bench = Bench::with(State {
+        settings,
+        next: random.u8_between(0, 3),
+        expected: random.u8_between(0, 3),
+        waiting: random.u8_between(0, settings.window),
+        length: [random.u16_between(1, limit), random.u16_between(1, limit)],
+        started: [random.u32(), random.u32()],
+        repeated: [random.u8_between(0, 2), random.u8_between(0, 2)],
+        acking: random.percent(50),
+        acknowledge_start: random.u32(),
+        nak_mark: random.percent(50),
+        lost: false,
+    });
+    bench.slots = random.bytes(bench.slots.len());
+    bench
+}
+
+/// A data frame that would be delivered and its ACK or NAK obeyed, but for its checksum, its
+/// size or its LEN.
+fn wrong_in_three_ways(random: &mut Random, settings: &Settings, fctr: u8) -> [(u8, Vec<u8>); 3] {
+    let limit = settings.packet_limit();
+    let size = random.u16_between(2, limit - 1);
+    let packet = random.bytes(size.into());
+    let mut sum = data(fctr, &packet);
+    let place = random.index(sum.len());
+    sum[place] ^= 1 << random.below(8);
+    let short = data(fctr, &packet)[..random.index(5)].to_vec();
+    let over = random.index(3) + 1;
+    let long = data(fctr, &random.bytes(usize::from(limit) + over));
+    let told = random.pick([0, size - 1, size + 1, size ^ 0x0100]);
+    let [high, low] = told.to_be_bytes();
+    let length = sealed(&[&[fctr, high, low], packet.as_slice()].concat());
+    let wrong_size = if random.percent(50) { short } else { long };
+    [(6, sum), (17, wrong_size), (18, length)]
+}
+
+/// Outcome, state and buffers, all but the answer, are those of the NAK alone.
+#[test]
+fn rows_6_17_and_18_differ_in_the_answer_alone() {
+    let mut random = Random::new(12);
+    for _ in 0..5_000 {
+        let before = any_hearing(&mut random);
+        let state = before.state;
+        let fctr = random.pick([0x00, 0x20]) | state.expected << 2 | random.u8_between(0, 3);
+        let now = random.u32();
+        let right = before.clone().take(now, &data(fctr, &[7]));
+        assert_eq!((right.answer, right.delivered), (0, 1));
+        let nak = if state.nak_mark {
+            Vec::new()
+        } else {
+            control(0xA0 | state.expected)
+        };
+        for (answer, frame) in wrong_in_three_ways(&mut random, &state.settings, fctr) {
+            let mut bench = before.clone();
+            let outcome = bench.take(now, &frame);
+            let told = Outcome {
+                state: State {
+                    nak_mark: true,
+                    ..state
+                },
+                answer,
+                sent: nak.len() as u16,
+                delivered: 0,
+                dropped: 0,
+            };
+            assert_eq!(outcome, told, "{frame:02X?}");
+            assert_eq!(bench.sent(&outcome), nak);
+            assert_eq!(bench.slots, before.slots);
+        }
     }
 }
 

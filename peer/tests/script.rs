@@ -81,7 +81,7 @@ fn sending_prints_everything() {
 fn receiving_prints_everything() {
     let (slots, nothing, rest) = (ee(23), dd(17), dd(12));
     let script = "take 7 03000100153C\ntake 8 03000100153C\ntake 9 810000_\n\
-        take 9 8100003056\ntake 2 -\ntake 2 00\nacknowledge 1\n";
+        take 9 8100003056\ntake 2 -\ntake 2 8100003057\ntake 2 0000000000\nacknowledge 1\n";
     let sum = sum(&[0xA1, 0, 0]);
     assert_eq!(
         after_start(script),
@@ -90,8 +90,9 @@ fn receiving_prints_everything() {
             format!("9 5 0 0 16 2 10 4 2 0 1 0 0 0 0 0 0 0 0 7 0 0 {slots} 800000EC0C{rest}"),
             "bad line 5".to_string(),
             format!("0 0 0 0 16 2 10 4 2 0 1 0 0 0 0 0 0 0 0 7 0 0 {slots} {nothing}"),
-            format!("6 5 0 0 16 2 10 4 2 0 1 0 0 0 0 0 0 0 0 7 1 0 {slots} A10000{sum}{rest}"),
+            format!("17 5 0 0 16 2 10 4 2 0 1 0 0 0 0 0 0 0 0 7 1 0 {slots} A10000{sum}{rest}"),
             format!("6 0 0 0 16 2 10 4 2 0 1 0 0 0 0 0 0 0 0 7 1 0 {slots} {nothing}"),
+            format!("18 0 0 0 16 2 10 4 2 0 1 0 0 0 0 0 0 0 0 7 1 0 {slots} {nothing}"),
             format!("0 0 0 0 16 2 10 4 2 0 1 0 0 0 0 0 0 0 0 7 1 0 {slots} {nothing}"),
         ]
     );

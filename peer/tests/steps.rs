@@ -21,6 +21,56 @@ fn step_1_sizes() {
     assert_eq!(hear(&sealed(&[0x80, 0]), D), Heard::Size);
 }
 
+/// What a fresh end answers to a frame, the NAK with it, and what it answers once the mark is set.
+fn answers(frame: &[u8]) -> (u8, Vec<u8>, u8) {
+    let mut bench = Bench::fresh(settings());
+    let outcome = bench.take(0, frame);
+    let sent = bench.sent(&outcome).to_vec();
+    let again = bench.take(0, frame);
+    assert_eq!(again.sent, 0);
+    (outcome.answer, sent, again.answer)
+}
+
+fn refused_with_nak(answer: u8) -> (u8, Vec<u8>, u8) {
+    (answer, control(0xA0), answer)
+}
+
+/// The last two sizes are 5 and 6 where only 16 bits of them are counted.
+#[test]
+fn step_1_refuses_a_size_by_17_whatever_the_sum() {
+    for size in [0, 1] {
+        assert_eq!(answers(&vec![0; size]), refused_with_nak(17));
+    }
+    for size in [2, 3, 4, 17, 18, 1024, 65_541, 65_542] {
+        for first in [0x03, 0x80, 0xC0, 0x10] {
+            let right = sealed(&vec![first; size - 2]);
+            assert_eq!(answers(&right), refused_with_nak(17), "{size}");
+            let mut wrong = right;
+            wrong[size - 1] ^= 1;
+            assert_eq!(answers(&wrong), refused_with_nak(17), "{size}");
+        }
+    }
+    assert_eq!(answers(&data(0x03, &[0; 12])), refused_with_nak(17));
+}
+
+/// Whatever else is wrong with the frame.
+#[test]
+fn step_1_refuses_a_sum_by_6() {
+    for mut frame in [
+        control(0x80),
+        control(0x10),
+        data(0x80, &[1]),
+        control(0x00),
+        sealed(&[0x03, 0, 2, 7]),
+        data(0x03, &[1]),
+        data(0x03, &[1; 11]),
+    ] {
+        let last = frame.len() - 1;
+        frame[last] ^= 0x80;
+        assert_eq!(answers(&frame), refused_with_nak(6));
+    }
+}
+
 #[test]
 fn step_1_checksum_in_every_byte() {
     for right in [control(0x80), control(0xC0), data(0x03, &[1, 2, 3])] {
@@ -116,6 +166,7 @@ fn step_4_lengths() {
             sealed(&[fctr, 0, 1, 7, 7]),
         ] {
             assert_eq!(hear(&wrong, D), Heard::Length);
+            assert_eq!(answers(&wrong), refused_with_nak(18));
         }
         let right = Data {
             number: fctr >> 2 & 3,
@@ -133,7 +184,7 @@ fn steps_1_2_and_4_use_nothing_else_of_the_frame() {
         let mut bench = Bench::waiting(settings(), 2);
         let before = bench.state;
         let outcome = bench.take(5, &sealed(&[fctr, 0, 2, 7]));
-        assert_eq!(outcome.answer, 6);
+        assert_eq!(outcome.answer, 18);
         assert_eq!(bench.sent(&outcome), control(0xA0));
         assert_eq!(
             bench.state,
@@ -150,7 +201,7 @@ fn nak_names_the_expected_number_and_is_sent_once() {
     let mut bench = Bench::fresh(settings());
     for number in 0..6u8 {
         let outcome = bench.take(0, &[]);
-        assert_eq!((outcome.answer, outcome.sent), (6, 5));
+        assert_eq!((outcome.answer, outcome.sent), (17, 5));
         assert_eq!(bench.sent(&outcome), control(0xA0 | number & 3));
         let outcome = bench.take(0, &control(0x90));
         assert_eq!((outcome.answer, outcome.sent), (7, 0));

@@ -43,17 +43,21 @@ hear 16 8100003056 -> 0 ack 1
 hear 16 A00000D70F -> 0 nak 0
 hear 16 C000009A0A -> 0 reset
 hear 16 03000100153C -> 0 data 0 ack 3, 1 bytes
-hear 5 03000100153C -> 6 size
-hear 0 - -> 6 size
-hear 65535 800000EC -> 6 size
+hear 5 03000100153C -> 17 size
+hear 5 03000100153D -> 17 size
+hear 0 - -> 17 size
+hear 16 0000 -> 17 size
+hear 65535 800000EC -> 17 size
 hear 16 800000EC0D -> 6 checksum
-hear 16 0000000000 -> 6 length
+hear 16 0000000000 -> 18 length
 
 # examples 7 to 9 and 5
 lend 22 16
 start 16 2 100 50 3 -> 0 - - 0
-take 0 0000000000 -> 6 A00000D70F - 0
-take 0 0000000000 -> 6 - - 0
+take 0 0000000000 -> 18 A00000D70F - 0
+take 0 0000000000 -> 18 - - 0
+take 0 0000000001 -> 6 - - 0
+take 0 00000000 -> 17 - - 0
 start 016 2 100 50 3 -> 0 - - 0
 take 7 03000100153c -> 0 - 00 0
 take 8 03000100153C -> 9 800000EC0C - 0
@@ -141,7 +145,7 @@ fn wrong_right_sides_are_corrected() {
             wrong += 1;
         }
     }
-    assert_eq!(wrong, 6 * 64);
+    assert_eq!(wrong, 6 * 68);
 }
 
 #[test]
@@ -158,8 +162,10 @@ fn without_an_arrow_it_is_computed_the_same() {
 #[test]
 fn hear_tells_every_step() {
     let cases = [
-        (vec![0; 4], "6 size"),
-        (data(0x03, &[0; 12]), "6 size"),
+        (vec![0; 4], "17 size"),
+        (vec![0x80, 0, 0, 0], "17 size"),
+        (data(0x03, &[0; 12]), "17 size"),
+        (vec![0x80; 17], "17 size"),
         (vec![0x80, 0, 0, 0, 0], "6 checksum"),
         (control(0x10), "7 code"),
         (control(0x84), "7 code"),
@@ -168,9 +174,9 @@ fn hear_tells_every_step() {
         (data(0x80, &[1]), "8 control"),
         (sealed(&[0xC0, 0, 1]), "8 control"),
         (sealed(&[0xA3, 0, 0, 7]), "8 control"),
-        (control(0x2F), "6 length"),
-        (sealed(&[0x03, 0, 2, 7]), "6 length"),
-        (sealed(&[0x03, 1, 1, 7]), "6 length"),
+        (control(0x2F), "18 length"),
+        (sealed(&[0x03, 0, 2, 7]), "18 length"),
+        (sealed(&[0x03, 1, 1, 7]), "18 length"),
         (control(0xC0), "0 reset"),
         (control(0x83), "0 ack 3"),
         (control(0xA2), "0 nak 2"),
@@ -186,7 +192,7 @@ fn hear_tells_every_step() {
     let longest = data(0x2E, &[0; 8187]);
     let told = "0 data 3 nak 2, 8187 bytes";
     assert_right(&format!("hear 8192 {} -> {told}\n", hex(&longest)));
-    assert_right(&format!("hear 8191 {} -> 6 size\n", hex(&longest)));
+    assert_right(&format!("hear 8191 {} -> 17 size\n", hex(&longest)));
 }
 
 /// NAK 3 repeats nothing and its packet is delivered; NAK 0 repeats, with the new ACK.
@@ -228,11 +234,11 @@ const BAD: [&str; 28] = [
     "checksum - ",
     "checksum - ->",
     "Checksum - -> 0000",
-    "hear 16 -> 6 size",
-    "hear - -> 6 size",
-    "hear 65536 - -> 6 size",
-    "hear 16 - - -> 6 size",
-    "hear 16  - -> 6 size",
+    "hear 16 -> 17 size",
+    "hear - -> 17 size",
+    "hear 65536 - -> 17 size",
+    "hear 16 - - -> 17 size",
+    "hear 16  - -> 17 size",
     "look -> 1 - - 0",
     "look 0->1 - - 0",
     "look 0\t->\t1 - - 0",
@@ -334,7 +340,15 @@ fn generated_scripts_agree_with_their_replay() {
         })
         .collect();
     assert_eq!(answers, replayed);
-    // What it printed is right, bad lines aside, which are bad again.
+    // What it prints is right, bad lines aside, which are bad again. Lines that their right
+    // sides would make too long to be read again are left out.
+    let lines = script.split_inclusive(|&byte| byte == b'\n');
+    let shorter: Vec<u8> = lines
+        .filter(|line| line.len() < 17_000)
+        .flatten()
+        .copied()
+        .collect();
+    let worked = self::worked(&shorter);
     assert_eq!(self::worked(&worked), worked);
 }
 

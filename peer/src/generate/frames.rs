@@ -10,12 +10,12 @@ pub fn any_frame(random: &mut Random, state: &State) -> Vec<u8> {
         0..=11 => control(0x80 | number(random, state)),
         12..=27 => control(0xA0 | number(random, state)),
         28..=31 => control(0xC0),
-        32..=51 => data(random, state, 0x00),
-        52..=67 => data(random, state, 0x20),
-        68..=73 => wrong_sum(random, state),
-        74..=79 => unused_code(random, state),
-        80..=86 => wrong_control(random),
-        87..=93 => wrong_length(random, state),
+        32..=49 => data(random, state, 0x00),
+        50..=65 => data(random, state, 0x20),
+        66..=71 => wrong_sum(random, state),
+        72..=77 => unused_code(random, state),
+        78..=84 => wrong_control(random),
+        85..=91 => wrong_length(random, state),
         _ => wrong_size(random, state),
     }
 }
@@ -92,13 +92,18 @@ fn body(random: &mut Random, state: &State) -> Vec<u8> {
     random.bytes(length.into())
 }
 
-fn data(random: &mut Random, state: &State, kind: u8) -> Vec<u8> {
+/// Mostly of the data that is expected.
+fn data_code(random: &mut Random, state: &State, kind: u8) -> u8 {
     let own = match random.below(10) {
         0..=5 => state.expected & 3,
         6..=7 => state.last_correct(),
         _ => random.u8_between(0, 3),
     };
-    let fctr = kind | own << 2 | number(random, state);
+    kind | own << 2 | number(random, state)
+}
+
+fn data(random: &mut Random, state: &State, kind: u8) -> Vec<u8> {
+    let fctr = data_code(random, state, kind);
     let body = body(random, state);
     with_length(fctr, body.len() as u16, &body)
 }
@@ -150,41 +155,65 @@ fn wrong_control(random: &mut Random) -> Vec<u8> {
     }
 }
 
-/// Step 4: LEN 0, or wrong in its low or its high byte.
+/// Step 4: LEN 0, one too small or too large, wrong in its high byte, the whole frame's size,
+/// or any.
 fn wrong_length(random: &mut Random, state: &State) -> Vec<u8> {
-    let fctr = random.pick([0x00, 0x20]) | (state.expected & 3) << 2 | number(random, state);
+    let kind = random.pick([0x00, 0x20]);
+    let fctr = data_code(random, state, kind);
     let body = body(random, state);
     let length = body.len() as u16;
-    match random.below(6) {
-        0 => control(fctr),
-        1 => with_length(fctr, 0, &body),
-        2 => with_length(fctr, length + 1, &body),
-        3 => with_length(fctr, length - 1, &body),
-        4 => with_length(fctr, length ^ 0x0100, &body),
+    match random.below(9) {
+        0..=1 => control(fctr),
+        2 => with_length(fctr, 0, &body),
+        3 => with_length(fctr, length + 1, &body),
+        4 => with_length(fctr, length - 1, &body),
+        5 => with_length(fctr, length ^ 0x0100, &body),
+        6 => with_length(fctr, length + frame::OVERHEAD, &body),
+        7 => with_length(fctr, random.word() as u16, &body),
         _ => with_length(fctr, 1, &[]),
     }
 }
 
-/// Step 1 about its bounds: 0 to 4, and one over D with all else right; now and then
-/// as much as a line can hold.
+/// Step 1 about its bounds, with a right sum and with a wrong one; now and then as much as a
+/// line can hold.
 fn wrong_size(random: &mut Random, state: &State) -> Vec<u8> {
-    let limit = usize::from(size_limit(state));
     if random.below(100) == 0 {
         return vec![0; 8192];
     }
-    match random.below(6) {
+    match random.below(8) {
         0 => Vec::new(),
-        1 => random.bytes(4),
-        2 => sealed(random.bytes(2)),
-        3 => vec![0; 5],
-        4 => {
-            let length = random.index(5);
-            random.bytes(length)
+        1 => {
+            let size = 1 + random.index(4);
+            random.bytes(size)
         }
-        _ => {
-            let fctr = (state.expected & 3) << 2 | number(random, state);
-            let body = random.bytes(limit - 4);
-            with_length(fctr, body.len() as u16, &body)
+        2..=3 => {
+            let covered = random.index(3);
+            sealed(random.bytes(covered))
         }
+        _ => too_long(random, state),
     }
+}
+
+/// Right but for its size; right as far as its LEN goes, with zeros behind, which leave the sum
+/// right; or of any code and LEN. The sum of some is wrong besides.
+fn too_long(random: &mut Random, state: &State) -> Vec<u8> {
+    let more = random.u16_between(1, 12);
+    let size = size_limit(state) + random.pick([1, 1, 2, more]);
+    let mut frame = match random.below(3) {
+        0 => {
+            let fctr = data_code(random, state, 0x00);
+            let length = size - frame::OVERHEAD;
+            with_length(fctr, length, &random.bytes(length.into()))
+        }
+        1 => {
+            let mut frame = data(random, state, 0x00);
+            frame.resize(size.into(), 0);
+            frame
+        }
+        _ => sealed(random.bytes(usize::from(size) - 2)),
+    };
+    if random.percent(50) {
+        flip(random, &mut frame);
+    }
+    frame
 }
