@@ -1,4 +1,4 @@
--- The numbers that the calls return: R8.0 to R8.16, which also say what each leaves; their order R9.1; later ones R9.4. Those from 17 on are
+-- The numbers that the calls return: R8.0 to R8.18, which also say what each leaves; their order R9.1; later ones R9.4. Those from 19 on are
 -- named for calls to come, and no call returns them yet (DECISIONS D89).
 use Prim.Native.Nat.{ℕ}
 use mathlib.Core.Bool.{cond}
@@ -28,9 +28,9 @@ packetSize = 4
 abbrev pub windowFull : ℕ
 windowFull = 5
 
--- R8.6: a damaged frame, by step 1 or 4
-abbrev pub badFrame : ℕ
-badFrame = 6
+-- R8.6: a frame whose checksum is wrong, by step 1
+abbrev pub frameSum : ℕ
+frameSum = 6
 
 -- R8.7: an FCTR out of use, by step 2
 abbrev pub unusedCode : ℕ
@@ -72,17 +72,15 @@ messageSize = 13
 abbrev pub noSuchPacket : ℕ
 noSuchPacket = 16
 
--- ---- R9.4, numbers for calls to come: a received frame
-
--- a frame of fewer than 5 or more than D bytes
+-- R8.17: a frame of fewer than 5 or more than D bytes, by step 1
 abbrev pub frameSize : ℕ
 frameSize = 17
 
--- a data frame whose LEN is 0, or not its size less 5
+-- R8.18: a data frame whose LEN is 0, or not its size less 5, by step 4
 abbrev pub frameLength : ℕ
 frameLength = 18
 
--- ---- registers
+-- ---- R9.4, numbers for calls to come: registers
 
 -- an address at which the chip has no register
 abbrev pub unknownRegister : ℕ

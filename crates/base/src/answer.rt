@@ -1,4 +1,4 @@
-// The numbers that the calls return (R8), a name for each. specs/Answer.antt has the same names for the contracts. Those from 17 on are named
+// The numbers that the calls return (R8), a name for each. specs/Answer.antt has the same names for the contracts. Those from 19 on are named
 // before any call returns them (R9.4), so that a call that is added later proves nothing below it again.
 pub const DONE: u8 = 0;
 
@@ -12,7 +12,7 @@ pub const PACKET_SIZE: u8 = 4;
 
 pub const WINDOW_FULL: u8 = 5;
 
-pub const BAD_FRAME: u8 = 6;
+pub const FRAME_SUM: u8 = 6;
 
 pub const UNUSED_CODE: u8 = 7;
 
@@ -33,8 +33,6 @@ pub const TOO_LONG: u8 = 14;
 pub const FAULT_TOLD: u8 = 15;
 
 pub const NO_SUCH_PACKET: u8 = 16;
-
-// ---- a received frame
 
 pub const FRAME_SIZE: u8 = 17;
 

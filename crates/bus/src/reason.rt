@@ -14,8 +14,9 @@ pub fn place_of(answer: u8, heard: usize, was_lost: bool) -> usize {
             true => words::LOST_BEFORE,
             false => words::LOST_NOW,
         },
-        answer::BAD_FRAME => std::num::wrapping_add_usize(words::REFUSED, heard),
-        answer::CONTROL_SIZE => std::num::wrapping_add_usize(words::REFUSED, heard),
+        answer::FRAME_SUM | answer::CONTROL_SIZE | answer::FRAME_SIZE | answer::FRAME_LENGTH => {
+            std::num::wrapping_add_usize(words::REFUSED, heard)
+        }
         _ => words::ANSWERS + least(answer as usize, words::OTHERS),
     }
 }

@@ -4,7 +4,7 @@ use mathlib.Core.Bool.{true, false}
 use mathlib.Core.List.{List, [], _∷_}
 use mathlib.Core.Path.{_≡_}
 use lib.ListN.{length}
-use Rattle.base.specs.Answer.{done, badFrame, unexpected}
+use Rattle.base.specs.Answer.{done, unexpected, frameLength}
 use Rattle.base.specs.Buffer.{put}
 use Rattle.fcs.specs.Checksum.{checksumOf}
 use Rattle.frame.specs.declared.Format.{Format}
@@ -60,11 +60,11 @@ pub record Table : Type 0 where
   pub example6 : (format : Format) → dataFrame format 0 3 (0x00 ∷ []) ≡ 0x03 ∷ 0x00 ∷ 0x01 ∷ 0x00 ∷ 0x15 ∷ 0x3C ∷ []
   -- R10.7, the checksum: as it is written ..
   pub example7-sum : (format : Format) → sealed format (0x00 ∷ 0x00 ∷ 0x00 ∷ []) ≡ 0x00 ∷ 0x00 ∷ 0x00 ∷ 0x00 ∷ 0x00 ∷ []
-  -- .. and as it is read: not step 1 refuses them, which answers 6 too, but step 4
+  -- .. and as it is read: not step 1 refuses them, but step 4
   pub example7-step4 : (format : Format) → 5 ≤ format .d → heard format (0x00 ∷ 0x00 ∷ 0x00 ∷ 0x00 ∷ 0x00 ∷ []) ≡ Length
   -- R10.7, the answer, and the frame of R10.4
   pub example7 : (e : End) → frameTaken (freshOf (e .settings)) (e .slots) (e .frame) (e .ms) (0x00 ∷ 0x00 ∷ 0x00 ∷ 0x00 ∷ 0x00 ∷ [])
-      ≡ after (told (withNakmark (freshOf (e .settings)) true) badFrame 5 0) (e .slots) (put (e .frame) 0 (0xA0 ∷ 0x00 ∷ 0x00 ∷ 0xD7 ∷ 0x0F ∷ []))
+      ≡ after (told (withNakmark (freshOf (e .settings)) true) frameLength 5 0) (e .slots) (put (e .frame) 0 (0xA0 ∷ 0x00 ∷ 0x00 ∷ 0xD7 ∷ 0x0F ∷ []))
   -- R10.8
   pub example8 : (e : End) → example6Taken e ≡ after (told (delivered0 e) done 0 1) (e .slots) (e .frame)
   pub example8-packet : (e : End) → packetIn (0x03 ∷ 0x00 ∷ 0x01 ∷ 0x00 ∷ 0x15 ∷ 0x3C ∷ []) (example6Taken e .told .delivered) ≡ 0x00 ∷ []

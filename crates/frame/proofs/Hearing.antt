@@ -1,22 +1,24 @@
 -- What hearing cites, and that what was written is heard. Assumes nothing.
-use mathlib.Core.Path.{_≡_, refl, ap, _∙_}
-use mathlib.Core.Bool.{Bool, true, false, true≢false, not, _&&_, _||_, and-true}
+use mathlib.Core.Path.{_≡_, refl, ap, sym, _∙_}
+use mathlib.Core.Bool.{Bool, true, false, true≢false, cond, not, _&&_, _||_, and-true, or-true}
+use mathlib.Core.Logic.{inl, inr, _≢_}
 use mathlib.Core.List.{List, [], _∷_, _++_}
 use Prim.Native.Nat.{ℕ, zero, suc, _+_, _-_, _*_, _/_, _%_, _≤_}
 use native.Mathlib.Numerals.{add-one}
 use native.Mathlib.Omega.{arith}
-use borrow.Author.Tests.{eqb-true, not-false, le-ltb, le-leb, lt-leb, eq-eqb, ne-eqb}
+use borrow.Author.Tests.{eqb-true, not-false, lt-ltb, le-ltb, le-leb, lt-leb, eq-eqb, ne-eqb}
 use lib.ListN.{length, take, drop, getD}
 use lib.Seq.{drop-cons, take-append-seam, drop-append-seam}
 use lib.Dec.{eqb, ltb}
+use Rattle.base.specs.Answer.{done, frameSum, unusedCode, controlSize, frameSize}
 use Rattle.base.proofs.Tests.{or-right-false, cond-cases}
 use Rattle.fcs.specs.Checksum.{checksumOf}
 use Rattle.frame.specs.declared.Format.{Format}
 use Rattle.frame.specs.declared.Heard.{Heard}
 use Rattle.frame.specs.declared.Heard.the-variants.{Size, Sum, Code, ControlSize, Length, Reset, Ack, Nak, Data}
 use Rattle.frame.specs.Bytes.{lenBytes, fcsBytes, sealed, frameOf, resetFrame}
-use Rattle.frame.specs.Steps.{fctrOf, lenOf, sameBytes, fcsAt, isControl, isNak, isReset, numberOf, acknowledgedOf, used, accepted, judged, heard, lenIn, acknowledgedIn}
-use Rattle.frame.specs.Promises.{DataHeard, AckHeard, NakHeard, ResetHeard, PacketHeard, LengthHeard, NumberHeard}
+use Rattle.frame.specs.Steps.{fctrOf, lenOf, sameBytes, fcsAt, isControl, isNak, isReset, numberOf, acknowledgedOf, used, accepted, judged, heard, refusalOf, lenIn, acknowledgedIn}
+use Rattle.frame.specs.Promises.{DataHeard, AckHeard, NakHeard, ResetHeard, PacketHeard, LengthHeard, NumberHeard, SizeFirst, NumberTells}
 use Rattle.frame.proofs.Writing.{sealed-length, frameOf-length}
 
 -- ---- step 1
@@ -155,3 +157,30 @@ pub length-heard : LengthHeard
 length-heard format frame =
     heard-holds (λ h. lenIn h ≤ length frame - 5) format frame (omega arith) (omega arith) (omega arith) (omega arith) (omega arith) (omega arith) (omega arith) (omega arith)
     (λ e. omega (arith, e))
+
+-- ---- a refusal's number
+
+pub size-first : SizeFirst
+unfolding heard
+size-first format frame (inl short) = rw (lt-ltb (length frame) 5 short)
+size-first format frame (inr long) = rw (lt-ltb (format .d) (length frame) long, or-true)
+
+-- the refusal of a number
+abbrev caseOf : ℕ → Heard
+caseOf number =
+    cond (eqb number frameSize) Size
+    (cond (eqb number frameSum) Sum (cond (eqb number unusedCode) Code (cond (eqb number controlSize) ControlSize Length)))
+
+caseOf-told : (h : Heard) → refusalOf h ≢ done → caseOf (refusalOf h) ≡ h
+caseOf-told Size n = refl
+caseOf-told Sum n = refl
+caseOf-told Code n = refl
+caseOf-told ControlSize n = refl
+caseOf-told Length n = refl
+caseOf-told Reset n = absurd (n refl)
+caseOf-told (Ack acknowledged) n = absurd (n refl)
+caseOf-told (Nak acknowledged) n = absurd (n refl)
+caseOf-told (Data number nak acknowledged len) n = absurd (n refl)
+
+pub number-tells : NumberTells
+number-tells h k n e = sym (caseOf-told k (λ d. n (sym e ∙ d))) ∙ ap caseOf e ∙ caseOf-told h n

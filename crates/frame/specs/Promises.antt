@@ -1,15 +1,18 @@
--- What is promised of frames beyond the functions' own contracts: R14.1, R14.2; proofs/Hearing.antt proves each. The first five serve R14.2,
--- since what one end writes the other must hear; R14.3 and R14.4 stand on them. The last two serve R14.1: whatever was received, the bytes
--- told are there, and no number is looked up that is none.
-use Prim.Native.Nat.{ℕ, _+_, _-_, _≤_}
+-- What is promised of frames beyond the functions' own contracts: R4.1, R12.7, R14.1, R14.2; proofs/Hearing.antt proves each. The first five serve R14.2,
+-- since what one end writes the other must hear; R14.3 and R14.4 stand on them. The next two serve R14.1: whatever was received, the bytes
+-- told are there, and no number is looked up that is none. The last two are for who sees a refusal's number.
+use Prim.Native.Nat.{ℕ, _+_, _-_, _<_, _≤_}
 use mathlib.Core.Bool.{false}
 use mathlib.Core.List.{List}
 use mathlib.Core.Path.{_≡_}
+use mathlib.Core.Logic.{_⊎_, _≢_}
 use lib.ListN.{length}
+use Rattle.base.specs.Answer.{done}
 use Rattle.frame.specs.declared.Format.{Format}
-use Rattle.frame.specs.declared.Heard.the-variants.{Reset, Ack, Nak, Data}
+use Rattle.frame.specs.declared.Heard.{Heard}
+use Rattle.frame.specs.declared.Heard.the-variants.{Size, Reset, Ack, Nak, Data}
 use Rattle.frame.specs.Bytes.{dataFrame, ackFrame, nakFrame, resetFrame}
-use Rattle.frame.specs.Steps.{heard, packetIn, lenIn, acknowledgedIn}
+use Rattle.frame.specs.Steps.{heard, refusalOf, packetIn, lenIn, acknowledgedIn}
 
 -- R14.2: hearing what was written gives back what was meant, for a data frame of every number and acknowledgement and a packet of 1 to
 -- D − 5 bytes ..
@@ -42,3 +45,11 @@ LengthHeard = (format : Format) (frame : List ℕ) → lenIn (heard format frame
 -- R14.1: an acknowledgement that is heard names a frame number, 0 to 3.
 abbrev pub NumberHeard : Type 0
 NumberHeard = (format : Format) (frame : List ℕ) → acknowledgedIn (heard format frame) ≤ 3
+
+-- R4.1: a frame of under 5 or over D bytes is refused by its size, whatever its checksum is.
+abbrev pub SizeFirst : Type 0
+SizeFirst = (format : Format) (frame : List ℕ) → (length frame < 5) ⊎ (format .d < length frame) → heard format frame ≡ Size
+
+-- R12.7: a refusal's number tells which refusal it was.
+abbrev pub NumberTells : Type 0
+NumberTells = (h k : Heard) → refusalOf h ≢ done → refusalOf k ≡ refusalOf h → k ≡ h

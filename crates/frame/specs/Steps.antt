@@ -6,7 +6,7 @@ use mathlib.Core.List.{List, [], _∷_}
 use lib.ListN.{length, take, drop, getD}
 use lib.Dec.{eqb, leb, ltb}
 use Rattle.base.specs.Range.{within}
-use Rattle.base.specs.Answer.{done, badFrame, unusedCode, controlSize}
+use Rattle.base.specs.Answer.{done, frameSum, unusedCode, controlSize, frameSize, frameLength}
 use Rattle.fcs.specs.Checksum.{checksumOf}
 use Rattle.frame.specs.declared.Format.{Format}
 use Rattle.frame.specs.declared.Heard.{Heard}
@@ -83,14 +83,14 @@ heard format frame =
     cond (ltb (length frame) 5 || ltb (format .d) (length frame)) Size
     (cond (not (fcsAt format (length frame - 2) frame)) Sum (judged (fctrOf frame) (lenOf frame) (length frame)))
 
--- R12.7. The numbers: 6 for steps 1 and 4, 7 for step 2, 8 for step 3; 0 for a control frame that passes, and for a data frame 0, or 9 by
--- step 7, which needs the state. The values are the cases' own, read off FCTR and LEN by the definitions above.
+-- R12.7. The numbers: 17 and 6 for step 1, 7 for step 2, 8 for step 3, 18 for step 4; 0 for a control frame that passes, and for a data
+-- frame 0, or 9 by step 7, which needs the state. The values are the cases' own, read off FCTR and LEN by the definitions above.
 abbrev pub refusalOf : Heard → ℕ
-refusalOf Size = badFrame
-refusalOf Sum = badFrame
+refusalOf Size = frameSize
+refusalOf Sum = frameSum
 refusalOf Code = unusedCode
 refusalOf ControlSize = controlSize
-refusalOf Length = badFrame
+refusalOf Length = frameLength
 refusalOf Reset = done
 refusalOf (Ack acknowledged) = done
 refusalOf (Nak acknowledged) = done

@@ -15,7 +15,7 @@ pub struct Format {
     pub d: u16,
 }
 
-// What steps 1 to 4 make of a received frame. Each refusal has a case of its own, also where two have one number (R12.7).
+// What steps 1 to 4 make of a received frame; each refusal is a case of its own, with a number of its own (R12.7).
 pub enum Heard {
     Size,
     Sum,
@@ -140,11 +140,11 @@ pub fn refusal(h: Heard) -> u8
     ensures { λ r. ⌜ r ≡ refusalOf h ⌝ }
 {
     match h {
-        Heard::Size => answer::BAD_FRAME,
-        Heard::Sum => answer::BAD_FRAME,
+        Heard::Size => answer::FRAME_SIZE,
+        Heard::Sum => answer::FRAME_SUM,
         Heard::Code => answer::UNUSED_CODE,
         Heard::ControlSize => answer::CONTROL_SIZE,
-        Heard::Length => answer::BAD_FRAME,
+        Heard::Length => answer::FRAME_LENGTH,
         Heard::Reset => answer::DONE,
         Heard::Ack(_) => answer::DONE,
         Heard::Nak(_) => answer::DONE,

@@ -1,12 +1,13 @@
 -- The wrong ends of specs/FalseEnds.antt, each tried at one input or two, of numbers and bytes that code can hold, by computing. Assumes nothing.
-use mathlib.Core.Path.{refl, ap}
+use mathlib.Core.Path.{_≡_, refl, ap, sym, _∙_}
 use mathlib.Core.Logic.{_≢_}
 use mathlib.Core.Bool.{Bool, true, false, cond}
 use mathlib.Core.List.{List, [], _∷_, _++_}
 use Prim.Native.Nat.{ℕ, suc, _+_, _-_, _%_, _≤_}
 use native.Mathlib.Omega.{arith}
-use borrow.Author.Tests.{eqb-false}
+use borrow.Author.Tests.{eqb-false, eq-eqb}
 use lib.ListN.{length, getD, replicate}
+use Rattle.base.specs.Answer.{frameSum, unusedCode, frameSize, frameLength}
 use Rattle.base.specs.Buffer.{put}
 use Rattle.fcs.specs.Checksum.{checksumOf}
 use Rattle.frame.specs.declared.Format.{Format}
@@ -16,12 +17,14 @@ use Rattle.state.specs.declared.Link.{Link}
 use Rattle.state.specs.declared.Outcome.{Outcome}
 use Rattle.state.specs.Fields.{withStarts, withRepeated, withExpected, withAcking, withNakmark, withLost}
 use Rattle.state.specs.State.{freshOf}
-use Rattle.state.specs.Gate.{After}
+use Rattle.state.specs.Gate.{After, refused}
 use Rattle.state.specs.Calls.{started, resynchronised}
+use Rattle.send.specs.Makers.{concluded, sendsNak}
 use Rattle.send.specs.Submit.{submitted}
 use Rattle.receive.specs.Take.{frameTaken}
+use Rattle.receive.specs.Refusals.{answering}
 use Rattle.clock.specs.Look.{looked, acknowledgedNow}
-use Rattle.link.specs.FalseEnds.{StartCall, Call, LookCall, Bare, Change, submitBut, takeBut, outcomeOf, lookBut, Shows, refuse, repeat, pretend, invent, spareSlots, spareFrame, overrun, smear, lengthsFirst, lostFirst, refuseDone, stay, oneCount, takenHearing, TakenHearingTrue, lookedBy, lookedWhen, LookedWhenTrue, ShutOut, ShutOutAlone}
+use Rattle.link.specs.FalseEnds.{StartCall, Call, LookCall, Bare, Change, submitBut, takeBut, outcomeOf, lookBut, Shows, instead, answers, leaving, refuse, repeat, pretend, invent, spareSlots, spareFrame, overrun, smear, lengthsFirst, lostFirst, refuseDone, stay, oneCount, takenHearing, TakenHearingTrue, lookedBy, lookedWhen, LookedWhenTrue, RefusalShut, ShutOut, ShutOutAlone}
 
 -- ---- where they are tried
 
@@ -110,6 +113,28 @@ other-differs byte e = omega (arith, e)
 
 none-invented : (n k : ℕ) → 1 ≤ n + k → 0 + n + (0 + k) ≢ 0
 none-invented n k more e = omega (arith, more, e)
+
+-- ---- a refused frame
+
+-- what `one` does where it refuses a frame with a NAK
+abbrev naked : ℕ → After Outcome
+naked answer = concluded (sendsNak one buffer) answer 0 slots
+
+-- another outcome for this answer shows, by a frame that has this answer
+refused-otherwise : (answer : ℕ) (received : List ℕ) (other : Link → List ℕ → List ℕ → After Outcome → After Outcome) (read : After Outcome → ℕ)
+    → frameTaken one slots buffer 0 received ≡ naked answer → read (other one slots buffer (naked answer)) ≢ read (naked answer)
+    → takeBut (instead (answers answer) other) ≢ frameTaken
+refused-otherwise answer received other read right differs same =
+    let wrong : takeBut (instead (answers answer) other) one slots buffer 0 received ≡ other one slots buffer (naked answer) = rw (right, eq-eqb answer answer refl) in
+    differs (ap read (sym wrong ∙ ap (λ (f : Call). f one slots buffer 0 received) same ∙ right))
+
+refusal-shut : (answer : ℕ) (received : List ℕ) → frameTaken one slots buffer 0 received ≡ naked answer → RefusalShut answer
+unfolding frameOf
+refusal-shut answer received right = record {
+  other-number = λ other differs. refused-otherwise answer received (λ l slots frame a. answering other a) (λ a. a .told .answer) right differs;
+  no-mark = refused-otherwise answer received (λ l slots frame a. leaving l a) (λ a. bit (a .told .state .nakmark)) right (eqb-false 0 1 refl);
+  no-nak = refused-otherwise answer received (λ l slots frame a. refused l answer slots frame) (λ a. a .told .sent) right (eqb-false 0 5 refl);
+}
 
 -- ---- the theorems
 
@@ -236,9 +261,13 @@ shut-out = record {
     over-gap = λ same. eqb-false 1 0 refl (ap (λ (f : Call). f one slots buffer 0 (numbered 3) .told .delivered) same);
     timer-left-by-repeat = λ same. eqb-false 1 0 refl (ap (λ (f : Call). bit (f one slots buffer 0 (nakFrame format 0) .told .state .acking)) same);
     timer-left-by-ack = λ same. eqb-false 1 0 refl (ap (λ (f : Call). bit (f one slots buffer 0 (numbered 1) .told .state .acking)) same);
-    len-0 = λ same. eqb-false 0 6 refl (ap (λ (f : Call). f (withExpected one 0) slots buffer 0 (replicate 5 0) .told .answer) same);
+    len-0 = λ same. eqb-false 0 18 refl (ap (λ (f : Call). f (withExpected one 0) slots buffer 0 (replicate 5 0) .told .answer) same);
     over-d = λ same. eqb-false 12 0 refl (ap (λ (f : Call). f one slots buffer 0 (dataFrame format 2 3 (replicate 12 1)) .told .delivered) same);
-    code-as-sum = λ same. eqb-false 6 7 refl (ap (λ (f : Call). f one slots buffer 0 (frameOf format 0x10 packet) .told .answer) same);
+    sum-first = λ same. eqb-false 6 17 refl (ap (λ (f : Call). f one slots buffer 0 (replicate 17 1) .told .answer) same);
+    size = refusal-shut frameSize [] refl;
+    sum = refusal-shut frameSum (0x80 ∷ 0 ∷ 0 ∷ 0 ∷ 0 ∷ []) refl;
+    code = refusal-shut unusedCode (frameOf format 0x10 packet) refl;
+    len = refusal-shut frameLength (replicate 5 0) refl;
     nak-again = λ same. eqb-false 5 0 refl (ap (λ (f : Call). f (withNakmark one true) slots buffer 0 [] .told .sent) same);
     nak-names-last = λ same. eqb-false 0xA1 0xA2 refl (ap (λ (f : Call). getD (f one slots buffer 0 [] .frame) 0 0) same);
     nak-stops-timer = λ same. eqb-false 0 1 refl (ap (λ (f : Call). bit (f one slots buffer 0 [] .told .state .acking)) same);

@@ -10,7 +10,7 @@ use mathlib.Core.Logic.{_≢_}
 use lib.ListN.{length, take, drop, getD, set}
 use lib.Dec.{eqb, leb, ltb}
 use lib.Bits.{bitXor}
-use Rattle.base.specs.Answer.{done, outOfRange, shortBuffer, linkLost, packetSize, windowFull, badFrame, unusedCode, controlSize, unexpected}
+use Rattle.base.specs.Answer.{done, outOfRange, shortBuffer, linkLost, packetSize, windowFull, frameSum, unusedCode, controlSize, unexpected, frameSize, frameLength}
 use Rattle.base.specs.Range.{leastOf}
 use Rattle.base.specs.Buffer.{put}
 use Rattle.fcs.specs.Checksum.{byteStep}
@@ -18,7 +18,7 @@ use Rattle.frame.specs.declared.Format.{Format}
 use Rattle.frame.specs.declared.Heard.{Heard}
 use Rattle.frame.specs.declared.Heard.the-variants.{Sum, ControlSize, Data}
 use Rattle.frame.specs.Bytes.{fcsBytes, sealed, frameOf, dataFrame, nakFrame, resetFrame}
-use Rattle.frame.specs.Steps.{fctrOf, sameBytes, isControl, isNak, numberOf, acknowledgedOf, heard}
+use Rattle.frame.specs.Steps.{fctrOf, sameBytes, fcsAt, isControl, isNak, numberOf, acknowledgedOf, heard}
 use Rattle.state.specs.declared.Settings.{Settings}
 use Rattle.state.specs.declared.Link.{Link}
 use Rattle.state.specs.declared.Outcome.{Outcome}
@@ -33,6 +33,7 @@ use Rattle.send.specs.Makers.{Sending, silent, concluded, sendsNak}
 use Rattle.send.specs.Submit.{submitted}
 use Rattle.receive.specs.Steps.{freed}
 use Rattle.receive.specs.Take.{refusedWithNak, obeyed, frameTaken}
+use Rattle.receive.specs.Refusals.{answering}
 use Rattle.clock.specs.declared.Looked.{Looked}
 use Rattle.clock.specs.Look.{afterOldest, exhausted, served, acknowledgedIf, lookedNewer, looking, looked, acknowledgedNow}
 
@@ -398,14 +399,22 @@ hearsReset l slots frame ms received =
 abbrev pub naksStep3 : Call
 naksStep3 = takeBut (instead (answers controlSize) (λ l slots frame right. refusedWithNak l slots frame ControlSize))
 
--- against R4.2: with 6
-abbrev pub codeAsSum : Call
-codeAsSum = takeBut (instead (answers unusedCode) (λ l slots frame right. refusedWithNak l slots frame Sum))
+-- against R4.1, R4.2 and R4.4: a refusal is told by another number, ..
+abbrev pub tellsOther : ℕ → ℕ → Change
+tellsOther answer other = instead (answers answer) (λ l slots frame right. answering other right)
+
+-- .. or, against R8.6, R8.7, R8.17 and R8.18, sets no mark, ..
+abbrev pub setsNoMark : ℕ → Change
+setsNoMark answer = instead (answers answer) (λ l slots frame right. leaving l right)
+
+-- .. or is passed over, without a NAK
+abbrev pub sendsNoNak : ℕ → Change
+sendsNoNak answer = instead (answers answer) (λ l slots frame right. refused l answer slots frame)
 
 -- against R4.8: a NAK with every refusal, ..
 abbrev pub naksAgain : Call
 naksAgain =
-    takeBut (instead (λ right. answers badFrame right || answers unusedCode right)
+    takeBut (instead (λ right. answers frameSum right || answers unusedCode right || answers frameSize right || answers frameLength right)
     (λ l slots frame right. concluded (sendsNak (withNakmark l false) frame) (right .told .answer) 0 slots))
 
 -- .. or one that names the number before
@@ -486,7 +495,11 @@ hearsEmpty format received =
     let acknowledged : ℕ = acknowledgedOf (fctrOf received) in
     cond (sameBytes received (dataFrame format number acknowledged [])) (Data number false acknowledged 0) (heard format received)
 
--- against R4.1: one byte more than D is heard
+-- against R4.1: the checksum is looked at first, ..
+abbrev pub hearsSumFirst : Format → List ℕ → Heard
+hearsSumFirst format received = cond (fcsAt format (length received - 2) received) (heard format received) Sum
+
+-- .. or one byte more than D is heard
 abbrev pub hearsLonger : Format → List ℕ → Heard
 hearsLonger format = heard (record { d = format .d + 1 })
 
@@ -612,6 +625,12 @@ pub record SubmitShut : Type 0 where
   pub other-polynomial : submitBut (summed (sumFrom (stepsBy 0x8810 8) 0)) ≢ submitted
   pub seed-up : submitBut (summed (sumFrom seedUp 0)) ≢ submitted
 
+-- a refusal of a received frame that has this number
+pub record RefusalShut (answer : ℕ) : Type 0 where
+  pub other-number : (other : ℕ) → other ≢ answer → takeBut (tellsOther answer other) ≢ frameTaken
+  pub no-mark : takeBut (setsNoMark answer) ≢ frameTaken
+  pub no-nak : takeBut (sendsNoNak answer) ≢ frameTaken
+
 pub record TakeShut : Type 0 where
   pub repeats-where-sent : (same : List ℕ) → takeBut (repeatWhereSent same) ≢ frameTaken
   pub on-silence : (byte : ℕ) → takeBut (smearDone byte) ≢ frameTaken
@@ -622,7 +641,11 @@ pub record TakeShut : Type 0 where
   pub timer-left-by-ack : takeBut (timerLeft sendsControl) ≢ frameTaken
   pub len-0 : takenHearing hearsEmpty ≢ frameTaken
   pub over-d : takenHearing hearsLonger ≢ frameTaken
-  pub code-as-sum : codeAsSum ≢ frameTaken
+  pub sum-first : takenHearing hearsSumFirst ≢ frameTaken
+  pub size : RefusalShut frameSize
+  pub sum : RefusalShut frameSum
+  pub code : RefusalShut unusedCode
+  pub len : RefusalShut frameLength
   pub nak-again : naksAgain ≢ frameTaken
   pub nak-names-last : naksLast ≢ frameTaken
   pub nak-stops-timer : nakStops ≢ frameTaken

@@ -131,7 +131,7 @@ resetOf calls S frame = calls .resynchronise (S .here .state) (S .here .slots) f
 
 -- ---- the line
 
--- R14.3: a frame of the queue is lost, or damaged to any bytes that step 1 refuses
+-- R14.3: a frame of the queue is lost, or damaged to any bytes that step 1 refuses, by their size (17) or by their checksum (6)
 pub data Harm (format : Format) : List (List ℕ) → List (List ℕ) → Type 0 where
   lost : (x : List ℕ) (q : List (List ℕ)) → Harm format (x ∷ q) q
   damaged : (x y : List ℕ) (q : List (List ℕ)) → (heard format y ≡ Size) ⊎ (heard format y ≡ Sum) → Harm format (x ∷ q) (y ∷ q)

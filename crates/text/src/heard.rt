@@ -54,11 +54,28 @@ pub fn write_heard(h: Heard) {
     );
 }
 
-// Writes what an end with that format hears in the frame; `noise` where it is one that steps 1 to 4 refuse.
+// `noise` where step 1 refuses it; where a later step does its checksum is right, so that it was meant: `a wrong frame`.
+fn write_refused(refusal: u8, size: usize) {
+    let place = match refusal {
+        answer::FRAME_SIZE => 0,
+        answer::FRAME_SUM => 0,
+        _ => 1,
+    };
+    lay::write_chosen(
+        b"noise (% bytes)|a wrong frame (% bytes)",
+        place,
+        size as u64,
+        0,
+        0,
+    );
+}
+
+// Writes what an end with that format hears in the frame.
 pub fn write_frame(format: Format, frame: &[u8]) {
     let heard = frame::hear(format, frame);
-    match frame::refusal(heard) {
+    let refusal = frame::refusal(heard);
+    match refusal {
         answer::DONE => write_heard(heard),
-        _ => lay::write_chosen(b"noise (% bytes)", 0, frame.len() as u64, 0, 0),
+        _ => write_refused(refusal, frame.len()),
     }
 }
