@@ -101,3 +101,7 @@ firstOf-refused a b n = cond-false (eqb a done) b a (ne-eqb a done n)
 -- it does not
 pub firstOf-done : (a b : ℕ) → a ≡ done → firstOf a b ≡ b
 firstOf-done a b e = cond-true (eqb a done) b a (eq-eqb a done e)
+
+-- a bound of both is one of the first
+pub firstOf-below : (n a b : ℕ) → a ≤ n → b ≤ n → firstOf a b ≤ n
+firstOf-below n a b p q = cond-cases (λ k. k ≤ n) (eqb a done) b a (λ e. q) (λ e. p)

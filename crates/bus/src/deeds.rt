@@ -19,6 +19,7 @@ use ends::moves::PASS;
 use ends::moves::RESYNCHRONISE;
 use ends::moves::ROUND;
 use ends::moves::SUBMIT;
+use state::Settings;
 use text::heard;
 use text::lay;
 
@@ -68,6 +69,14 @@ fn tell_deed(store: &Store, p: Ends, m: Move, bytes: &[u8]) {
 
 // ---- after it
 
+// The number in a reason: the longest frame, for one of a wrong size; else how many bytes a submit was handed.
+fn measure(s: Settings, heard: usize, count: usize) -> u64 {
+    match heard {
+        hearing::SIZE => s.format.d as u64,
+        _ => count as u64,
+    }
+}
+
 // count: how many bytes a submit was handed.
 fn tell_event(store: &Store, p: Ends, v: Event, count: usize) {
     match v.delivered == 0 {
@@ -82,7 +91,7 @@ fn tell_event(store: &Store, p: Ends, v: Event, count: usize) {
     say(
         reason::place_of(v.answer, v.heard, v.was_lost),
         v.answer as u64,
-        count as u64,
+        measure(p.desk.link.settings, v.heard, count),
         state::limit(p.desk.link.settings) as u64,
     );
     match v.sent == 0 {

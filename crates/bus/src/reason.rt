@@ -7,7 +7,7 @@ use text::least;
 
 // ---- a call
 
-// The phrase for what a call answers; nothing where it does not refuse. A frame that is refused has it by what was heard in it.
+// The phrase for what a call answers; nothing where it does not refuse. With 6, 8, 17 and 18 it goes by what was heard in the frame.
 pub fn place_of(answer: u8, heard: usize, was_lost: bool) -> usize {
     match answer {
         answer::LINK_LOST => match was_lost {

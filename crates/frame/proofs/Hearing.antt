@@ -1,24 +1,22 @@
 -- What hearing cites, and that what was written is heard. Assumes nothing.
-use mathlib.Core.Path.{_≡_, refl, ap, sym, _∙_}
-use mathlib.Core.Bool.{Bool, true, false, true≢false, cond, not, _&&_, _||_, and-true, or-true}
-use mathlib.Core.Logic.{inl, inr, _≢_}
+use mathlib.Core.Path.{_≡_, refl, ap, _∙_}
+use mathlib.Core.Bool.{Bool, true, false, true≢false, not, _&&_, _||_, and-true}
 use mathlib.Core.List.{List, [], _∷_, _++_}
 use Prim.Native.Nat.{ℕ, zero, suc, _+_, _-_, _*_, _/_, _%_, _≤_}
 use native.Mathlib.Numerals.{add-one}
 use native.Mathlib.Omega.{arith}
-use borrow.Author.Tests.{eqb-true, not-false, lt-ltb, le-ltb, le-leb, lt-leb, eq-eqb, ne-eqb}
+use borrow.Author.Tests.{eqb-true, not-true, not-false, le-ltb, le-leb, lt-leb, eq-eqb, ne-eqb}
 use lib.ListN.{length, take, drop, getD}
 use lib.Seq.{drop-cons, take-append-seam, drop-append-seam}
 use lib.Dec.{eqb, ltb}
-use Rattle.base.specs.Answer.{done, frameSum, unusedCode, controlSize, frameSize}
 use Rattle.base.proofs.Tests.{or-right-false, cond-cases}
 use Rattle.fcs.specs.Checksum.{checksumOf}
 use Rattle.frame.specs.declared.Format.{Format}
 use Rattle.frame.specs.declared.Heard.{Heard}
 use Rattle.frame.specs.declared.Heard.the-variants.{Size, Sum, Code, ControlSize, Length, Reset, Ack, Nak, Data}
 use Rattle.frame.specs.Bytes.{lenBytes, fcsBytes, sealed, frameOf, resetFrame}
-use Rattle.frame.specs.Steps.{fctrOf, lenOf, sameBytes, fcsAt, isControl, isNak, isReset, numberOf, acknowledgedOf, used, accepted, judged, heard, refusalOf, lenIn, acknowledgedIn}
-use Rattle.frame.specs.Promises.{DataHeard, AckHeard, NakHeard, ResetHeard, PacketHeard, LengthHeard, NumberHeard, SizeFirst, NumberTells}
+use Rattle.frame.specs.Steps.{fctrOf, lenOf, sameBytes, fcsAt, isControl, isNak, isReset, numberOf, acknowledgedOf, used, accepted, judged, heard, lenIn, acknowledgedIn}
+use Rattle.frame.specs.Promises.{DataHeard, AckHeard, NakHeard, ResetHeard, PacketHeard, LengthHeard, NumberHeard}
 use Rattle.frame.proofs.Writing.{sealed-length, frameOf-length}
 
 -- ---- step 1
@@ -134,53 +132,43 @@ accepted-holds P fctr len reset ack nak datum =
     (λ c. cond-cases P (isReset fctr) _ _ (λ r. reset) (λ r. cond-cases P (isNak fctr) _ _ (λ n. nak) (λ n. ack)))
     datum
 
--- what holds of each refusal and of each frame that passes, a data frame's LEN being its size − 5, holds of whatever is heard
-heard-holds : (P : Heard → Type 0) (format : Format) (frame : List ℕ) → P Size → P Sum → P Code → P ControlSize → P Length → P Reset
-    → P (Ack (acknowledgedOf (fctrOf frame))) → P (Nak (acknowledgedOf (fctrOf frame)))
+-- step 1 passed, and which of steps 3 and 4 does not
+abbrev pub right : Format → List ℕ → Bool
+right format frame = fcsAt format (length frame - 2) frame
+
+abbrev pub oversize : List ℕ → Bool
+oversize frame = not (eqb (length frame) 5) || not (eqb (lenOf frame) 0)
+
+abbrev pub uneven : List ℕ → Bool
+uneven frame = eqb (lenOf frame) 0 || not (eqb (lenOf frame) (length frame - 5))
+
+-- what holds of each refusal, by what is so of the frame then, and of each frame that passes, a data frame's LEN being its size − 5, holds
+-- of whatever is heard
+pub heard-holds : (P : Heard → Type 0) (format : Format) (frame : List ℕ)
+    → ((ltb (length frame) 5 || ltb (format .d) (length frame)) ≡ true → P Size)
+    → (right format frame ≡ false → P Sum)
+    → (right format frame ≡ true → used (fctrOf frame) ≡ false → P Code)
+    → (right format frame ≡ true → (isControl (fctrOf frame) && oversize frame) ≡ true → P ControlSize)
+    → (right format frame ≡ true → (not (isControl (fctrOf frame)) && uneven frame) ≡ true → P Length)
+    → P Reset → P (Ack (acknowledgedOf (fctrOf frame))) → P (Nak (acknowledgedOf (fctrOf frame)))
     → (lenOf frame ≡ length frame - 5 → P (Data (numberOf (fctrOf frame)) (isNak (fctrOf frame)) (acknowledgedOf (fctrOf frame)) (lenOf frame)))
     → P (heard format frame)
 unfolding heard judged
 heard-holds P format frame size sum code control len reset ack nak datum =
-    cond-cases P (ltb (length frame) 5 || ltb (format .d) (length frame)) _ _ (λ e. size)
-    (λ e. cond-cases P (not (fcsAt format (length frame - 2) frame)) _ _ (λ f. sum)
-    (λ f. cond-cases P (not (used (fctrOf frame))) _ _ (λ u. code)
-    (λ u. cond-cases P (isControl (fctrOf frame) && (not (eqb (length frame) 5) || not (eqb (lenOf frame) 0))) _ _ (λ c. control)
-    (λ c. cond-cases P (not (isControl (fctrOf frame)) && (eqb (lenOf frame) 0 || not (eqb (lenOf frame) (length frame - 5)))) _ _ (λ l. len)
+    cond-cases P (ltb (length frame) 5 || ltb (format .d) (length frame)) _ _ size
+    (λ e. cond-cases P (not (right format frame)) _ _ (λ f. sum (not-true (right format frame) f))
+    (λ f. let r : right format frame ≡ true = not-false (right format frame) f in
+    cond-cases P (not (used (fctrOf frame))) _ _ (λ u. code r (not-true (used (fctrOf frame)) u))
+    (λ u. cond-cases P (isControl (fctrOf frame) && oversize frame) _ _ (control r)
+    (λ c. cond-cases P (not (isControl (fctrOf frame)) && uneven frame) _ _ (len r)
     (λ l. accepted-holds P (fctrOf frame) (lenOf frame) reset ack nak (λ k. datum (even (isControl (fctrOf frame)) (lenOf frame) (length frame) k l)))))))
 
 pub number-heard : NumberHeard
 number-heard format frame =
-    heard-holds (λ h. acknowledgedIn h ≤ 3) format frame (omega arith) (omega arith) (omega arith) (omega arith) (omega arith) (omega arith) (omega arith) (omega arith)
-    (λ e. omega arith)
+    heard-holds (λ h. acknowledgedIn h ≤ 3) format frame (λ e. omega arith) (λ f. omega arith) (λ r u. omega arith) (λ r c. omega arith) (λ r l. omega arith)
+    (omega arith) (omega arith) (omega arith) (λ e. omega arith)
 
 pub length-heard : LengthHeard
 length-heard format frame =
-    heard-holds (λ h. lenIn h ≤ length frame - 5) format frame (omega arith) (omega arith) (omega arith) (omega arith) (omega arith) (omega arith) (omega arith) (omega arith)
-    (λ e. omega (arith, e))
-
--- ---- a refusal's number
-
-pub size-first : SizeFirst
-unfolding heard
-size-first format frame (inl short) = rw (lt-ltb (length frame) 5 short)
-size-first format frame (inr long) = rw (lt-ltb (format .d) (length frame) long, or-true)
-
--- the refusal of a number
-abbrev caseOf : ℕ → Heard
-caseOf number =
-    cond (eqb number frameSize) Size
-    (cond (eqb number frameSum) Sum (cond (eqb number unusedCode) Code (cond (eqb number controlSize) ControlSize Length)))
-
-caseOf-told : (h : Heard) → refusalOf h ≢ done → caseOf (refusalOf h) ≡ h
-caseOf-told Size n = refl
-caseOf-told Sum n = refl
-caseOf-told Code n = refl
-caseOf-told ControlSize n = refl
-caseOf-told Length n = refl
-caseOf-told Reset n = absurd (n refl)
-caseOf-told (Ack acknowledged) n = absurd (n refl)
-caseOf-told (Nak acknowledged) n = absurd (n refl)
-caseOf-told (Data number nak acknowledged len) n = absurd (n refl)
-
-pub number-tells : NumberTells
-number-tells h k n e = sym (caseOf-told k (λ d. n (sym e ∙ d))) ∙ ap caseOf e ∙ caseOf-told h n
+    heard-holds (λ h. lenIn h ≤ length frame - 5) format frame (λ e. omega arith) (λ f. omega arith) (λ r u. omega arith) (λ r c. omega arith) (λ r l. omega arith)
+    (omega arith) (omega arith) (omega arith) (λ e. omega (arith, e))

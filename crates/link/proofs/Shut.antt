@@ -81,7 +81,7 @@ packet = 1 ∷ []
 abbrev numbered : ℕ → List ℕ
 numbered number = dataFrame format number 3 packet
 
--- whether the acknowledge timer runs, as a number
+-- a mark, or whether the acknowledge timer runs, as a number
 abbrev bit : Bool → ℕ
 bit b = cond b 1 0
 
@@ -117,18 +117,18 @@ none-invented n k more e = omega (arith, more, e)
 -- ---- a refused frame
 
 -- what `one` does where it refuses a frame with a NAK
-abbrev naked : ℕ → After Outcome
-naked answer = concluded (sendsNak one buffer) answer 0 slots
+abbrev refusal : ℕ → After Outcome
+refusal answer = concluded (sendsNak one buffer) answer 0 slots
 
 -- another outcome for this answer shows, by a frame that has this answer
 refused-otherwise : (answer : ℕ) (received : List ℕ) (other : Link → List ℕ → List ℕ → After Outcome → After Outcome) (read : After Outcome → ℕ)
-    → frameTaken one slots buffer 0 received ≡ naked answer → read (other one slots buffer (naked answer)) ≢ read (naked answer)
+    → frameTaken one slots buffer 0 received ≡ refusal answer → read (other one slots buffer (refusal answer)) ≢ read (refusal answer)
     → takeBut (instead (answers answer) other) ≢ frameTaken
 refused-otherwise answer received other read right differs same =
-    let wrong : takeBut (instead (answers answer) other) one slots buffer 0 received ≡ other one slots buffer (naked answer) = rw (right, eq-eqb answer answer refl) in
+    let wrong : takeBut (instead (answers answer) other) one slots buffer 0 received ≡ other one slots buffer (refusal answer) = rw (right, eq-eqb answer answer refl) in
     differs (ap read (sym wrong ∙ ap (λ (f : Call). f one slots buffer 0 received) same ∙ right))
 
-refusal-shut : (answer : ℕ) (received : List ℕ) → frameTaken one slots buffer 0 received ≡ naked answer → RefusalShut answer
+refusal-shut : (answer : ℕ) (received : List ℕ) → frameTaken one slots buffer 0 received ≡ refusal answer → RefusalShut answer
 unfolding frameOf
 refusal-shut answer received right = record {
   other-number = λ other differs. refused-otherwise answer received (λ l slots frame a. answering other a) (λ a. a .told .answer) right differs;

@@ -45,7 +45,7 @@ moment4 = swap (takes (swap moment3) buffer 4294967278 (dataFrame (settings .for
 abbrev pub moment5 : System
 moment5 = withQueue moment4 ((0xFF ∷ []) ∷ [])
 
--- the desk answers 6, and its NAK is on the way
+-- the desk answers 17, and its NAK is on the way
 abbrev pub moment6 : System
 moment6 = takes moment5 buffer 4294967279 (0xFF ∷ []) []
 

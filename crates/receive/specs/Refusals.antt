@@ -1,12 +1,15 @@
--- What take leaves of a frame that is refused with a NAK, whatever the reason: R4.8, R8.6, R8.7, R8.17, R8.18; proofs/Refusals.antt proves it.
+-- What take leaves of a frame that is refused with a NAK, whatever the reason, and what its answer tells: R4.8, R8.6, R8.7, R8.17, R8.18, R12.7;
+-- proofs/Refusals.antt proves it.
 use Prim.Native.Nat.{ℕ}
 use mathlib.Core.Bool.{true}
 use mathlib.Core.List.{List, [], _∷_}
 use mathlib.Core.Path.{_≡_}
+use mathlib.Core.Logic.{_≢_}
 use lib.ListN.{length}
 use Rattle.base.specs.Answer.{done}
 use Rattle.frame.specs.declared.Heard.{Heard}
 use Rattle.frame.specs.declared.Heard.the-variants.{Size, Sum, Code, Length}
+use Rattle.frame.specs.Bytes.{frameOf}
 use Rattle.frame.specs.Steps.{heard, refusalOf}
 use Rattle.state.specs.declared.Link.{Link}
 use Rattle.state.specs.declared.Outcome.{Outcome}
@@ -42,9 +45,16 @@ pub record Alike (l : Link) (slots frame : List ℕ) : Type 0 where
   -- .. and such frames there are, of each kind: this end hears them so
   pub size : heardBy l [] ≡ Size
   pub sum : heardBy l (0x80 ∷ 0x00 ∷ 0x00 ∷ 0xEC ∷ 0x0D ∷ []) ≡ Sum
-  pub code : heardBy l (0x10 ∷ 0x00 ∷ 0x00 ∷ 0x95 ∷ 0x85 ∷ []) ≡ Code
+  pub code : heardBy l (frameOf (l .settings .format) 0x10 []) ≡ Code
   pub len : heardBy l (0x00 ∷ 0x00 ∷ 0x00 ∷ 0x00 ∷ 0x00 ∷ []) ≡ Length
 
 -- R4.8, behind the gate of R9.1: of every end, and whatever is lent to it
 abbrev pub NumberAlone : Type 0
 NumberAlone = (l : Link) (slots frame : List ℕ) → gateOf l (length slots) (length frame) ≡ done → Alike l slots frame
+
+-- R12.7, of take: an answer that is a refusal's number is given for that refusal alone, whatever the end and what is lent to it. (What is so
+-- of the frame then, ReasonHeard (frame) says.)
+abbrev pub AnswerTells : Type 0
+AnswerTells =
+    (l : Link) (slots frame : List ℕ) (ms : ℕ) (received : List ℕ) (h : Heard) → refusalOf h ≢ done
+    → frameTaken l slots frame ms received .told .answer ≡ refusalOf h → heardBy l received ≡ h

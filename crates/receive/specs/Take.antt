@@ -15,7 +15,7 @@ use Rattle.state.specs.Calls.{becameFresh}
 use Rattle.send.specs.Makers.{Sending, silent, concluded, sendsRepeat, sendsAck, sendsNak}
 use Rattle.receive.specs.Steps.{freed, repeatable, afterStep6, afterDelivery}
 
--- R4.8: the refusals of R4.1, R4.2 and R4.4; what they leave is in R8.6 and R8.7. R4.9: none of the frame's numbers comes in.
+-- R4.8: the refusals of R4.1, R4.2 and R4.4; what they leave is in R8.6, R8.7, R8.17 and R8.18. R4.9: none of the frame's numbers comes in.
 abbrev pub refusedWithNak : Link → List ℕ → List ℕ → Heard → After Outcome
 refusedWithNak l slots frame h = concluded (sendsNak l frame) (refusalOf h) 0 slots
 

@@ -10,7 +10,7 @@ use lib.ListN.{getD}
 use lib.Dec.{leb, ltb, eqb}
 use Rattle.base.specs.Range.{within}
 use Rattle.base.specs.Answer.{done, outOfRange, shortBuffer, linkLost}
-use Rattle.base.proofs.Tests.{and-left, and-right, or-right, or-left-false, or-right-false, cond-cases, within-low, within-high, passed, spared, firstOf-left, firstOf-right}
+use Rattle.base.proofs.Tests.{and-left, and-right, or-right, or-left-false, or-right-false, cond-cases, within-low, within-high, passed, spared, firstOf-left, firstOf-right, firstOf-below}
 use Rattle.state.specs.declared.Settings.{Settings}
 use Rattle.state.specs.declared.Link.{Link}
 use Rattle.state.specs.declared.Outcome.{Outcome}
@@ -195,6 +195,19 @@ gateOf-facts l slots frame e =
       entered = entryOf-facts l slots frame (firstOf-left (entryOf l slots frame) (cond (l .lost) linkLost done) e);
       alive = spared (l .lost) linkLost (omega arith) (firstOf-right (entryOf l slots frame) (cond (l .lost) linkLost done) e);
     }
+
+-- it refuses with 1, 2 or 3
+pub gateOf-below : (l : Link) (slots frame : ℕ) → gateOf l slots frame ≤ 3
+unfolding gateOf entryOf
+gateOf-below l slots frame =
+    firstOf-below 3 (entryOf l slots frame) (cond (l .lost) linkLost done)
+    (firstOf-below 3 (cond (wellFormed l) done outOfRange) (cond short shortBuffer done)
+    (cond-cases (λ k. k ≤ 3) (wellFormed l) done outOfRange (λ e. omega arith) (λ e. omega arith))
+    (cond-cases (λ k. k ≤ 3) short shortBuffer done (λ e. omega arith) (λ e. omega arith)))
+    (cond-cases (λ k. k ≤ 3) (l .lost) linkLost done (λ e. omega arith) (λ e. omega arith))
+  where
+    short : Bool
+    short = ltb slots (slotsNeed (l .settings)) || ltb frame (frameNeed (l .settings))
 
 -- behind it a control frame has its five bytes
 pub control-fits : (l : Link) (slots frame : ℕ) → Entered l slots frame → 5 ≤ frame

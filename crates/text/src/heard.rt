@@ -54,7 +54,7 @@ pub fn write_heard(h: Heard) {
     );
 }
 
-// `noise` where step 1 refuses it; where a later step does its checksum is right, so that it was meant: `a wrong frame`.
+// `noise` where step 1 refuses it; where a later step does, its size and its checksum are right: `a wrong frame`.
 fn write_refused(refusal: u8, size: usize) {
     let place = match refusal {
         answer::FRAME_SIZE => 0,

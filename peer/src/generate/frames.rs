@@ -20,8 +20,8 @@ pub fn any_frame(random: &mut Random, state: &State) -> Vec<u8> {
     }
 }
 
-/// A frame with bytes changed, lost or added. A zero added leaves the sum right, since
-/// it starts at 0, so that later steps have to refuse the frame.
+/// A frame with bytes changed, lost or added. A zero behind leaves the sum right, since it
+/// is 0 over a frame with its FCS, so that later steps have to refuse the frame.
 pub fn damaged(random: &mut Random, frame: &[u8]) -> Vec<u8> {
     let mut frame = frame.to_vec();
     match random.below(9) {
