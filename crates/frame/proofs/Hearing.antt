@@ -16,7 +16,7 @@ use Rattle.frame.specs.declared.Heard.{Heard}
 use Rattle.frame.specs.declared.Heard.the-variants.{Size, Sum, Code, ControlSize, Length, Reset, Ack, Nak, Data}
 use Rattle.frame.specs.Bytes.{lenBytes, fcsBytes, sealed, frameOf, resetFrame}
 use Rattle.frame.specs.Steps.{fctrOf, lenOf, sameBytes, fcsAt, isControl, isNak, isReset, numberOf, acknowledgedOf, used, accepted, judged, heard, lenIn, acknowledgedIn}
-use Rattle.frame.specs.Promises.{DataHeard, AckHeard, NakHeard, ResetHeard, PacketHeard, LengthHeard, NumberHeard}
+use Rattle.frame.specs.Promises.{DataHeard, AckHeard, NakHeard, ResetHeard, PacketHeard, LengthHeard, NumberHeard, right}
 use Rattle.frame.proofs.Writing.{sealed-length, frameOf-length}
 
 -- ---- step 1
@@ -132,10 +132,7 @@ accepted-holds P fctr len reset ack nak datum =
     (λ c. cond-cases P (isReset fctr) _ _ (λ r. reset) (λ r. cond-cases P (isNak fctr) _ _ (λ n. nak) (λ n. ack)))
     datum
 
--- step 1 passed, and which of steps 3 and 4 does not
-abbrev pub right : Format → List ℕ → Bool
-right format frame = fcsAt format (length frame - 2) frame
-
+-- the tests of steps 3 and 4, beside that of bit 7
 abbrev pub oversize : List ℕ → Bool
 oversize frame = not (eqb (length frame) 5) || not (eqb (lenOf frame) 0)
 

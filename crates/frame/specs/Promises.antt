@@ -1,8 +1,9 @@
--- What is promised of frames beyond the functions' own contracts: R4.1 to R4.4, R12.7, R14.1, R14.2; proofs/Hearing.antt proves each. The
--- first five serve R14.2, since what one end writes the other must hear; R14.3 and R14.4 stand on them. The next two serve R14.1: whatever
--- was received, the bytes told are there, and no number is looked up that is none. The last three are for whoever sees a refusal's number.
+-- What is promised of frames beyond the functions' own contracts: R4.1 to R4.4, R12.7, R14.1, R14.2; proofs/Hearing.antt and Reasons.antt prove
+-- it. The first five serve R14.2, since what one end writes the other must hear; R14.3 and R14.4 stand on them. The next two serve R14.1:
+-- whatever was received, the bytes told are there, and no number is looked up that is none. The last three are for whoever sees a refusal's
+-- number.
 use Prim.Native.Nat.{ℕ, _+_, _-_, _<_, _≤_}
-use mathlib.Core.Bool.{true, false}
+use mathlib.Core.Bool.{Bool, true, false}
 use mathlib.Core.List.{List}
 use mathlib.Core.Path.{_≡_}
 use mathlib.Core.Logic.{_⊎_, _≢_}
@@ -50,21 +51,26 @@ NumberHeard = (format : Format) (frame : List ℕ) → acknowledgedIn (heard for
 abbrev pub NumberTells : Type 0
 NumberTells = (h k : Heard) → refusalOf h ≢ done → refusalOf k ≡ refusalOf h → k ≡ h
 
+-- R3.2: the last two bytes are FCS of all others
+abbrev pub right : Format → List ℕ → Bool
+right format frame = fcsAt format (length frame - 2) frame
+
 -- R4.1 to R4.4: what is so of a frame that is heard as this
 pub data Reason (format : Format) (frame : List ℕ) : Heard → Type 0 where
   wrong-size : (length frame < 5) ⊎ (format .d < length frame) → Reason format frame Size
-  wrong-sum : fcsAt format (length frame - 2) frame ≡ false → Reason format frame Sum
-  wrong-code : fcsAt format (length frame - 2) frame ≡ true → used (fctrOf frame) ≡ false → Reason format frame Code
-  wrong-control : fcsAt format (length frame - 2) frame ≡ true → isControl (fctrOf frame) ≡ true → (length frame ≢ 5) ⊎ (lenOf frame ≢ 0)
-      → Reason format frame ControlSize
-  wrong-len : fcsAt format (length frame - 2) frame ≡ true → isControl (fctrOf frame) ≡ false → (lenOf frame ≡ 0) ⊎ (lenOf frame ≢ length frame - 5)
-      → Reason format frame Length
+  wrong-sum : right format frame ≡ false → Reason format frame Sum
+  wrong-code : right format frame ≡ true → used (fctrOf frame) ≡ false → Reason format frame Code
+  wrong-control : right format frame ≡ true → isControl (fctrOf frame) ≡ true → (length frame ≢ 5) ⊎ (lenOf frame ≢ 0) → Reason format frame ControlSize
+  wrong-len : right format frame ≡ true → isControl (fctrOf frame) ≡ false → (lenOf frame ≡ 0) ⊎ (lenOf frame ≢ length frame - 5) → Reason format frame Length
   passed : (h : Heard) → refusalOf h ≡ done → Reason format frame h
 
--- R4.1 to R4.4: the reason is true, whatever was received.
+-- R4.1 to R4.4: a refusal has its reason, whatever was received: 17, 6 and 18 are given only where it is true, ..
 abbrev pub ReasonHeard : Type 0
 ReasonHeard = (format : Format) (frame : List ℕ) → Reason format frame (heard format frame)
 
--- R4.1: a frame of under 5 or over D bytes is refused by its size, whatever its checksum is.
-abbrev pub SizeFirst : Type 0
-SizeFirst = (format : Format) (frame : List ℕ) → (length frame < 5) ⊎ (format .d < length frame) → heard format frame ≡ Size
+-- .. and, by R4.1 and R4.4, wherever it is: 17 whatever the checksum is, 6 whatever follows in the frame, 18 where no step before has refused it
+pub record FaultHeard (format : Format) (frame : List ℕ) : Type 0 where
+  pub size : (length frame < 5) ⊎ (format .d < length frame) → heard format frame ≡ Size
+  pub sum : 5 ≤ length frame → length frame ≤ format .d → right format frame ≡ false → heard format frame ≡ Sum
+  pub len : 5 ≤ length frame → length frame ≤ format .d → right format frame ≡ true → used (fctrOf frame) ≡ true → isControl (fctrOf frame) ≡ false
+      → (lenOf frame ≡ 0) ⊎ (lenOf frame ≢ length frame - 5) → heard format frame ≡ Length

@@ -15,7 +15,7 @@ use Rattle.frame.specs.declared.Heard.{Heard}
 use Rattle.frame.specs.declared.Heard.the-variants.{Size, Sum, Code, ControlSize, Length, Reset, Ack, Nak, Data}
 use Rattle.frame.specs.Bytes.{sealed, frameOf}
 use Rattle.frame.specs.Steps.{heard, judged, refusalOf}
-use Rattle.frame.proofs.Reasons.{number-tells}
+use Rattle.frame.proofs.Reasons.{refused-holds, number-tells}
 use Rattle.state.specs.declared.Link.{Link}
 use Rattle.state.specs.declared.Outcome.{Outcome}
 use Rattle.state.specs.Gate.{After, gateOf}
@@ -54,15 +54,13 @@ number-alone l slots frame g = record {
 
 -- no refusal has the number of the gate's (1 to 3), nor of step 7's (9)
 refusal-above : (h : Heard) → refusalOf h ≢ done → (4 ≤ refusalOf h) × (unexpected ≢ refusalOf h)
-refusal-above Size n = (omega arith, λ e. omega (arith, e))
-refusal-above Sum n = (omega arith, λ e. omega (arith, e))
-refusal-above Code n = (omega arith, λ e. omega (arith, e))
-refusal-above ControlSize n = (omega arith, λ e. omega (arith, e))
-refusal-above Length n = (omega arith, λ e. omega (arith, e))
-refusal-above Reset n = absurd (n refl)
-refusal-above (Ack acknowledged) n = absurd (n refl)
-refusal-above (Nak acknowledged) n = absurd (n refl)
-refusal-above (Data number nak acknowledged len) n = absurd (n refl)
+refusal-above =
+    refused-holds (λ h. (4 ≤ refusalOf h) × (unexpected ≢ refusalOf h))
+    (omega arith, λ e. omega (arith, e))
+    (omega arith, λ e. omega (arith, e))
+    (omega arith, λ e. omega (arith, e))
+    (omega arith, λ e. omega (arith, e))
+    (omega arith, λ e. omega (arith, e))
 
 obeyed-tells : (l : Link) (slots frame : List ℕ) (ms : ℕ) (h k : Heard) → refusalOf h ≢ done → obeyed l slots frame ms k .told .answer ≡ refusalOf h → k ≡ h
 unfolding obeyed dataTaken
