@@ -14,7 +14,7 @@ use Rattle.fcs.specs.Checksum.{checksumOf}
 use Rattle.frame.specs.declared.Format.{Format}
 use Rattle.frame.specs.declared.Heard.{Heard}
 use Rattle.frame.specs.declared.Heard.the-variants.{Size, Sum, Code, ControlSize, Length, Reset, Ack, Nak, Data}
-use Rattle.frame.specs.Bytes.{lenBytes, fcsBytes, sealed, frameOf, resetFrame}
+use Rattle.frame.specs.Bytes.{lenBytes, highFirst, fcsBytes, sealed, frameOf, resetFrame}
 use Rattle.frame.specs.Steps.{fctrOf, lenOf, sameBytes, fcsAt, isControl, isNak, isReset, numberOf, acknowledgedOf, used, accepted, judged, heard, lenIn, acknowledgedIn}
 use Rattle.frame.specs.Promises.{DataHeard, AckHeard, NakHeard, ResetHeard, PacketHeard, LengthHeard, NumberHeard, right}
 use Rattle.frame.proofs.Writing.{sealed-length, frameOf-length}
@@ -104,9 +104,14 @@ pub nak-heard : NakHeard
 unfolding judged
 nak-heard = control-heard 0xA0 Nak refl refl refl refl
 
+-- both strings are the frame of C0, each in its order
 pub resetFrame-framed : (format : Format) → resetFrame format ≡ frameOf format 0xC0 []
 unfolding frameOf checksumOf
-resetFrame-framed format = refl
+resetFrame-framed format = go (eqb (format .order) highFirst) refl
+  where
+    go : (t : Bool) → eqb (format .order) highFirst ≡ t → resetFrame format ≡ frameOf format 0xC0 []
+    go true e = rw e
+    go false e = rw e
 
 pub reset-heard : ResetHeard
 unfolding judged

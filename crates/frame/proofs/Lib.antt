@@ -1,3 +1,4 @@
 pub mod Writing
 pub mod Hearing
 pub mod Reasons
+pub mod Orders

@@ -1,8 +1,10 @@
--- A frame's bytes, and the frames that an end sends: R3.1, R3.2, R3.7.
+-- A frame's bytes, and the frames that an end sends: R3.1, R3.2, R3.7, R3.8.
 use Prim.Native.Nat.{ℕ, _+_, _*_, _/_, _%_}
+use mathlib.Core.Bool.{cond}
 use mathlib.Core.List.{List, [], _∷_, _++_}
 use mathlib.Core.Path.{_≡_}
 use lib.ListN.{length}
+use lib.Dec.{eqb}
 use Rattle.base.specs.Buffer.{put}
 use Rattle.fcs.specs.Checksum.{checksumOf}
 use Rattle.frame.specs.declared.Format.{Format}
@@ -11,10 +13,24 @@ use Rattle.frame.specs.declared.Format.{Format}
 abbrev pub lenBytes : ℕ → List ℕ
 lenBytes len = (len / 256) ∷ (len % 256) ∷ []
 
--- R3.1, FCS: the one place that knows the order, but for the reset frame, whose five bytes R3.7 gives. The format says nothing of the order
--- yet; it is an argument because it will (DECISIONS D90).
+-- R3.8, the two orders of FCS: its low byte first, or its high byte
+abbrev pub lowFirst : ℕ
+lowFirst = 0
+
+abbrev pub highFirst : ℕ
+highFirst = 1
+
+-- R3.8: of two things the one for the order that the format has. A number that is neither order no end ever has (R2.1); here it is read as
+-- low first (DECISIONS D109).
+abbrev pub byOrder : {A : Type 0} → Format → A → A → A
+byOrder format low high = cond (eqb (format .order) highFirst) high low
+
+-- R3.1, FCS: the byte that goes first, and the other
 abbrev pub fcsBytes : Format → ℕ → List ℕ
-fcsBytes format sum = (sum % 256) ∷ (sum / 256) ∷ []
+fcsBytes format sum =
+    let low : ℕ = sum % 256 in
+    let high : ℕ = sum / 256 in
+    byOrder format low high ∷ byOrder format high low ∷ []
 
 -- R3.2: bytes, and their FCS behind them
 unfoldable pub sealed : Format → List ℕ → List ℕ
@@ -35,9 +51,9 @@ ackFrame format acknowledged = frameOf format (0x80 + acknowledged) []
 abbrev pub nakFrame : Format → ℕ → List ℕ
 nakFrame format acknowledged = frameOf format (0xA0 + acknowledged) []
 
--- R3.7, the reset frame, written out (R12.4)
+-- R3.7, the reset frame, written out (R12.4), one for each order
 abbrev pub resetFrame : Format → List ℕ
-resetFrame format = 0xC0 ∷ 0x00 ∷ 0x00 ∷ 0x9A ∷ 0x0A ∷ []
+resetFrame format = byOrder format (0xC0 ∷ 0x00 ∷ 0x00 ∷ 0x9A ∷ 0x0A ∷ []) (0xC0 ∷ 0x00 ∷ 0x00 ∷ 0x0A ∷ 0x9A ∷ [])
 
 -- ---- for the contracts of functions inside
 

@@ -6,14 +6,18 @@ ghost use mathlib.Core.List.{[], _∷_, _++_};
 ghost use Prim.Native.Nat.{_+_, _≤_, _<_};
 ghost use lib.ListN.{length, take};
 ghost use Rattle.base.specs.Buffer.{put};
-ghost use Rattle.frame.specs.Bytes.{lenBytes, fcsBytes, sealed, dataFrame, ackFrame, nakFrame, frameOf, resetFrame, Written};
+ghost use Rattle.frame.specs.Bytes.{lenBytes, byOrder, fcsBytes, sealed, dataFrame, ackFrame, nakFrame, frameOf, resetFrame, Written};
 ghost use Rattle.frame.specs.Steps.{lenOf, fcsAt, used, accepted, judged, heard, refusalOf};
 
-// What the bytes of a frame depend on beside what it says, for the writer as for the hearer: D. (An order of the FCS bytes would be one more
-// field; no function outside this crate would see it.)
+// What the bytes of a frame depend on beside what it says, for the writer as for the hearer: D, and the order of the FCS bytes (R3.8).
 pub struct Format {
     pub d: u16,
+    pub order: u8,
 }
+
+// R3.8, the two orders.
+pub const LOW_FIRST: u8 = 0;
+pub const HIGH_FIRST: u8 = 1;
 
 // What steps 1 to 4 make of a received frame; each refusal is a case of its own, with a number of its own (R12.7).
 pub enum Heard {
@@ -33,10 +37,18 @@ pub enum Heard {
     },
 }
 
+fn by_order(format: Format, low: u8, high: u8) -> u8
+    ensures { λ r. ⌜ r ≡ byOrder format low high ⌝ }
+{
+    if format.order == HIGH_FIRST { high } else { low }
+}
+
 fn fcs_bytes(format: Format, sum: u16) -> [u8; 2]
     ensures { λ r. ⌜ r ≡ fcsBytes format sum ⌝ }
 {
-    [(sum % 256) as u8, (sum / 256) as u8]
+    let low = (sum % 256) as u8;
+    let high = (sum / 256) as u8;
+    [by_order(format, low, high), by_order(format, high, low)]
 }
 
 // ---- hearing
@@ -228,11 +240,15 @@ pub fn write_nak(format: Format, frame: &mut [u8], acknowledged: u8) -> u16
     write_control(format, frame, 0xA0 + acknowledged)
 }
 
-// R12.4: writes the reset frame, a fixed string, and gives its length.
+// R12.4: writes the reset frame, a fixed string for each order, and gives its length.
 pub fn write_reset(format: Format, frame: &mut [u8]) -> u16
     requires { ⌜ 5 ≤ length (now frame) ⌝ }
     ensures { λ r. ⌜ Written (resetFrame format) (now (frame .entry)) (now (frame .exit)) r ⌝ }
 {
-    buffer::copy_at(frame, 0, b"\xC0\x00\x00\x9A\x0A");
+    if format.order == HIGH_FIRST {
+        buffer::copy_at(frame, 0, b"\xC0\x00\x00\x0A\x9A");
+    } else {
+        buffer::copy_at(frame, 0, b"\xC0\x00\x00\x9A\x0A");
+    }
     5
 }

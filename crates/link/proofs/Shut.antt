@@ -29,7 +29,7 @@ use Rattle.link.specs.FalseEnds.{StartCall, Call, LookCall, Bare, Change
 -- ---- where they are tried
 
 abbrev format : Format
-format = record { d = 16 }
+format = record { d = 16; order = 0 }
 
 abbrev timed : ℕ → ℕ → Settings
 timed window acktimeout = record { format = format; transtimeout = 100; acktimeout = acktimeout; window = window; repeats = 3 }

@@ -501,7 +501,7 @@ hearsSumFirst format received = cond (fcsAt format (length received - 2) receive
 
 -- .. or one byte more than D is heard
 abbrev pub hearsLonger : Format → List ℕ → Heard
-hearsLonger format = heard (record { d = format .d + 1 })
+hearsLonger format = heard (record { d = format .d + 1; order = format .order })
 
 -- ---- look by another test
 

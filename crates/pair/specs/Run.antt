@@ -10,7 +10,7 @@ use Rattle.pair.specs.Demand3.{Through, Alive}
 use Rattle.pair.specs.TrueCalls.{System, submits, takes, freshSide, Moment, Played}
 
 abbrev pub settings : Settings
-settings = record { format = record { d = 16 }; transtimeout = 100; acktimeout = 50; window = 2; repeats = 2 }
+settings = record { format = record { d = 16; order = 0 }; transtimeout = 100; acktimeout = 50; window = 2; repeats = 2 }
 
 abbrev pub buffer : List ℕ
 buffer = 0 ∷ 0 ∷ 0 ∷ 0 ∷ 0 ∷ 0 ∷ 0 ∷ 0 ∷ 0 ∷ 0 ∷ 0 ∷ 0 ∷ 0 ∷ 0 ∷ 0 ∷ 0 ∷ []

@@ -1,21 +1,19 @@
 -- Refusals with a NAK differ in their number alone, and the number tells which it was. Assumes nothing.
 use mathlib.Core.Path.{_≡_, refl, ap, sym, _∙_}
-use mathlib.Core.Bool.{false}
 use mathlib.Core.Logic.{_≢_}
-use mathlib.Core.List.{List}
+use mathlib.Core.List.{List, []}
 use Prim.Native.Nat.{ℕ, _≤_}
 use native.Mathlib.Omega.{arith}
-use borrow.Author.Tests.{le-ltb}
 use lib.ListN.{length}
-use lib.Dec.{eqb, ltb}
+use lib.Dec.{eqb}
 use Rattle.base.specs.Answer.{done, unexpected}
 use Rattle.base.proofs.Tests.{cond-cases}
-use Rattle.fcs.specs.Checksum.{checksumOf}
 use Rattle.frame.specs.declared.Heard.{Heard}
 use Rattle.frame.specs.declared.Heard.the-variants.{Size, Sum, Code, ControlSize, Length, Reset, Ack, Nak, Data}
-use Rattle.frame.specs.Bytes.{sealed, frameOf}
 use Rattle.frame.specs.Steps.{heard, judged, refusalOf}
+use Rattle.frame.proofs.Hearing.{heard-framed}
 use Rattle.frame.proofs.Reasons.{refused-holds, number-tells}
+use Rattle.frame.proofs.Orders.{zeros-framed, reset-other}
 use Rattle.state.specs.declared.Link.{Link}
 use Rattle.state.specs.declared.Outcome.{Outcome}
 use Rattle.state.specs.Gate.{After, gateOf}
@@ -32,21 +30,19 @@ obeyed-nak l slots frame ms Sum by-sum = refl
 obeyed-nak l slots frame ms Code by-code = refl
 obeyed-nak l slots frame ms Length by-length = refl
 
--- D is at least 16
-long-enough : (l : Link) (slots frame : ℕ) → gateOf l slots frame ≡ done → ltb (l .settings .format .d) 5 ≡ false
-long-enough l slots frame g = le-ltb (l .settings .format .d) 5 (omega (arith, gateOf-facts l slots frame g .entered .formed .settings .d-lo))
-
 pub number-alone : NumberAlone
-unfolding heard judged frameOf sealed checksumOf
+unfolding heard judged
 number-alone l slots frame g = record {
   but-number = λ ms ms2 received received2 w w2. taken ms2 received2 w2 ∙ ap (answering (refusalOf (heardBy l received2))) (sym (taken ms received w));
   suppressed = λ ms received w marked. taken ms received w ∙ rw marked;
   size = refl;
-  sum = rw (long-enough l (length slots) (length frame) g);
-  code = rw (long-enough l (length slots) (length frame) g);
-  len = rw (long-enough l (length slots) (length frame) g);
+  sum = reset-other (l .settings .format) five;
+  code = heard-framed (l .settings .format) 0x10 [] five;
+  len = ap (heardBy l) (zeros-framed (l .settings .format)) ∙ heard-framed (l .settings .format) 0x00 [] five;
 }
   where
+    five : 5 ≤ l .settings .format .d
+    five = omega (arith, gateOf-facts l (length slots) (length frame) g .entered .formed .settings .d-lo)
     taken : (ms : ℕ) (received : List ℕ) → WithNak (heardBy l received) → frameTaken l slots frame ms received ≡ refusedWithNak l slots frame (heardBy l received)
     taken ms received w = frameTaken-open l slots frame ms received g ∙ obeyed-nak l slots frame ms (heardBy l received) w
 

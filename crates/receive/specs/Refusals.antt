@@ -9,8 +9,9 @@ use lib.ListN.{length}
 use Rattle.base.specs.Answer.{done}
 use Rattle.frame.specs.declared.Heard.{Heard}
 use Rattle.frame.specs.declared.Heard.the-variants.{Size, Sum, Code, Length}
-use Rattle.frame.specs.Bytes.{frameOf}
+use Rattle.frame.specs.Bytes.{frameOf, resetFrame}
 use Rattle.frame.specs.Steps.{heard, refusalOf}
+use Rattle.frame.specs.Orders.{other}
 use Rattle.state.specs.declared.Link.{Link}
 use Rattle.state.specs.declared.Outcome.{Outcome}
 use Rattle.state.specs.Gate.{After, after, refused, gateOf}
@@ -42,9 +43,9 @@ pub record Alike (l : Link) (slots frame : List ℕ) : Type 0 where
   -- .. also where the NAK is suppressed: then all is left as it was, and the number is told
   pub suppressed : (ms : ℕ) (received : List ℕ) → WithNak (heardBy l received) → l .nakmark ≡ true
       → frameTaken l slots frame ms received ≡ refused l (refusalOf (heardBy l received)) slots frame
-  -- .. and such frames there are, of each kind: this end hears them so
+  -- .. and such frames there are, of each kind: this end hears them so. A reset frame in the other order of FCS is one of them (R3.8).
   pub size : heardBy l [] ≡ Size
-  pub sum : heardBy l (0x80 ∷ 0x00 ∷ 0x00 ∷ 0xEC ∷ 0x0D ∷ []) ≡ Sum
+  pub sum : heardBy l (resetFrame (other (l .settings .format))) ≡ Sum
   pub code : heardBy l (frameOf (l .settings .format) 0x10 []) ≡ Code
   pub len : heardBy l (0x00 ∷ 0x00 ∷ 0x00 ∷ 0x00 ∷ 0x00 ∷ []) ≡ Length
 

@@ -11,6 +11,7 @@ use lib.Dec.{leb, ltb, eqb}
 use Rattle.base.specs.Range.{within}
 use Rattle.base.specs.Answer.{done, outOfRange, shortBuffer, linkLost}
 use Rattle.base.proofs.Tests.{and-left, and-right, or-right, or-left-false, or-right-false, cond-cases, within-low, within-high, passed, spared, firstOf-left, firstOf-right, firstOf-below}
+use Rattle.frame.specs.Bytes.{highFirst}
 use Rattle.state.specs.declared.Settings.{Settings}
 use Rattle.state.specs.declared.Link.{Link}
 use Rattle.state.specs.declared.Outcome.{Outcome}
@@ -30,7 +31,9 @@ inRange-facts s e =
     let t = within 2 (s .transtimeout) 1000 in
     let a = leb 1 (s .acktimeout) && ltb (s .acktimeout) (s .transtimeout) in
     let r = within 1 (s .repeats) 4 in
-    let e4 : (d && w && t && a) ≡ true = and-left (d && w && t && a) r e in
+    let o = leb (s .format .order) highFirst in
+    let e5 : (d && w && t && a && r) ≡ true = and-left (d && w && t && a && r) o e in
+    let e4 : (d && w && t && a) ≡ true = and-left (d && w && t && a) r e5 in
     let e3 : (d && w && t) ≡ true = and-left (d && w && t) a e4 in
     let e2 : (d && w) ≡ true = and-left (d && w) t e3 in
     let ea : a ≡ true = and-right (d && w && t) a e4 in
@@ -43,8 +46,9 @@ inRange-facts s e =
       transtimeout-hi = within-high 2 (s .transtimeout) 1000 (and-right (d && w) t e3);
       acktimeout-lo = leb-true 1 (s .acktimeout) (and-left (leb 1 (s .acktimeout)) (ltb (s .acktimeout) (s .transtimeout)) ea);
       acktimeout-hi = ltb-true (s .acktimeout) (s .transtimeout) (and-right (leb 1 (s .acktimeout)) (ltb (s .acktimeout) (s .transtimeout)) ea);
-      repeats-lo = within-low 1 (s .repeats) 4 (and-right (d && w && t && a) r e);
-      repeats-hi = within-high 1 (s .repeats) 4 (and-right (d && w && t && a) r e);
+      repeats-lo = within-low 1 (s .repeats) 4 (and-right (d && w && t && a) r e5);
+      repeats-hi = within-high 1 (s .repeats) 4 (and-right (d && w && t && a) r e5);
+      order-hi = leb-true (s .format .order) highFirst (and-right (d && w && t && a && r) o e);
     }
 
 pub facts-inRange : (s : Settings) → InRange s → inRange s ≡ true
@@ -61,6 +65,7 @@ facts-inRange s f =
       lt-ltb (s .acktimeout) (s .transtimeout) (f .acktimeout-hi),
       le-leb 1 (s .repeats) (f .repeats-lo),
       le-leb (s .repeats) 4 (f .repeats-hi),
+      le-leb (s .format .order) highFirst (f .order-hi),
     )
 
 -- ---- slots

@@ -11,7 +11,7 @@ use Rattle.state.specs.FalseTimes.{OlderCounts}
 -- packets 0 and 1 wait, sent at 0 and at 50
 abbrev two : Link
 two = record {
-  settings = record { format = record { d = 16 }; transtimeout = 100; acktimeout = 50; window = 2; repeats = 3 };
+  settings = record { format = record { d = 16; order = 0 }; transtimeout = 100; acktimeout = 50; window = 2; repeats = 3 };
   starts = 0 ∷ 50 ∷ [];
   ackstart = 0;
   lengths = 1 ∷ 1 ∷ [];

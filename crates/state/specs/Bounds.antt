@@ -3,6 +3,7 @@ use Prim.Native.Nat.{ℕ, _-_, _*_}
 use mathlib.Core.Bool.{Bool, _&&_}
 use lib.Dec.{leb, ltb}
 use Rattle.base.specs.Range.{within}
+use Rattle.frame.specs.Bytes.{highFirst}
 use Rattle.state.specs.declared.Settings.{Settings}
 
 -- R2.2: m
@@ -17,6 +18,7 @@ inRange s =
     && within 2 (s .transtimeout) 1000
     && (leb 1 (s .acktimeout) && ltb (s .acktimeout) (s .transtimeout))
     && within 1 (s .repeats) 4
+    && leb (s .format .order) highFirst
 
 -- R2.4, the slot buffer and the frame buffer
 abbrev pub slotsNeed : Settings → ℕ

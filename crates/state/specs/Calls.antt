@@ -16,7 +16,7 @@ use Rattle.state.specs.Gate.{After, after, only, gated, entryOf}
 
 -- R8.1, R8.2: what a refused start gives. Its D is 0, so it is refused without a rule of its own (DECISIONS D20).
 abbrev pub zeros : Link
-zeros = freshOf (record { format = record { d = 0 }; transtimeout = 0; acktimeout = 0; window = 0; repeats = 0 })
+zeros = freshOf (record { format = record { d = 0; order = 0 }; transtimeout = 0; acktimeout = 0; window = 0; repeats = 0 })
 
 -- R1.3: start, of the settings and the length of the slot buffer; it asks in the order of R9.1, and gives a fresh end (R5.2)
 unfoldable pub started : Settings → ℕ → Outcome

@@ -4,6 +4,7 @@ use Prim.Native.Nat.{ℕ, _<_, _≤_}
 use mathlib.Core.Bool.{true, false}
 use mathlib.Core.Path.{_≡_}
 use lib.ListN.{length, getD}
+use Rattle.frame.specs.Bytes.{highFirst}
 use Rattle.state.specs.declared.Settings.{Settings}
 use Rattle.state.specs.declared.Link.{Link}
 use Rattle.state.specs.Bounds.{limitOf, slotsNeed, frameNeed}
@@ -21,6 +22,7 @@ pub record InRange (s : Settings) : Type 0 where
   pub acktimeout-hi : s .acktimeout < s .transtimeout
   pub repeats-lo : 1 ≤ s .repeats
   pub repeats-hi : s .repeats ≤ 4
+  pub order-hi : s .format .order ≤ highFirst
 
 -- R8.1: the packet that n were sent after has a length of 1 to m
 pub record LengthOk (l : Link) (n : ℕ) : Type 0 where

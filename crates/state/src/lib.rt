@@ -99,6 +99,7 @@ fn in_range(s: Settings) -> bool
         & ((2 <= s.transtimeout) & (s.transtimeout <= 1000))
         & ((1 <= s.acktimeout) & (s.acktimeout < s.transtimeout))
         & ((1 <= s.repeats) & (s.repeats <= 4))
+        & (s.format.order <= frame::HIGH_FIRST)
 }
 
 fn length_ok(l: Link, number: u8) -> bool
@@ -314,7 +315,7 @@ pub fn zero_state() -> Link
     ensures { λ r. ⌜ r ≡ zeros ⌝ }
 {
     fresh(Settings {
-        format: Format { d: 0 },
+        format: Format { d: 0, order: 0 },
         transtimeout: 0,
         acktimeout: 0,
         window: 0,
