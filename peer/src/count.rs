@@ -4,8 +4,9 @@ use std::collections::BTreeMap;
 use std::io::{self, BufRead, Write};
 
 use crate::answer;
-use crate::frame::{hear, Data, Heard, OVERHEAD};
-use crate::link::{elapsed, Outcome, State};
+use crate::bus;
+use crate::frame::{self, Data, Heard, OVERHEAD};
+use crate::link::{elapsed, Outcome, Settings, State};
 use crate::script::{read, ChainOutcome, Command, Lines, LinkCommand, Reading, Rig, Said};
 
 /// The answers that each call has: R9, R7.5.
@@ -20,7 +21,7 @@ const ANSWERS: [(&str, &[u8]); 8] = [
     ("join", &[0, 1, 2, 4, 10, 11, 12, 14, 15]),
 ];
 
-const EVENTS: [&str; 24] = [
+const EVENTS: [&str; 34] = [
     "bad-line",
     "take-repeat",
     "take-9-with-repeat",
@@ -45,6 +46,16 @@ const EVENTS: [&str; 24] = [
     "backward-clock-due",
     "join-message",
     "join-fault-07",
+    "start-1-by-order",
+    "state-1-by-order",
+    "take-6-other-order",
+    "take-6-reset-in-other-order",
+    "high-first-takes-reset",
+    "high-first-delivers",
+    "high-first-sends-reset",
+    "high-first-sends-data",
+    "high-first-sends-nak",
+    "high-first-sends-ack",
 ];
 
 /// An elapsed time below this, with a clock below its start, is taken for a wrap;
@@ -82,7 +93,7 @@ pub fn count<R: BufRead>(input: R) -> io::Result<Tally> {
             Reading::Do(command) => {
                 let before = rig.link.state;
                 if let Some(said) = rig.execute(&command) {
-                    tally.note(&before, &command, &said);
+                    tally.note(&before, &command, &said, rig.link.frame());
                 }
             }
         }
@@ -133,13 +144,18 @@ impl Tally {
         }
     }
 
-    fn note(&mut self, before: &State, command: &Command<'_>, said: &Said) {
+    /// The frame buffer is the one that the call left.
+    fn note(&mut self, before: &State, command: &Command<'_>, said: &Said, frame: &[u8]) {
         if let Some(call) = command.call() {
             *self.answers.entry((call, said.answer())).or_default() += 1;
         }
         match (command, said) {
             (Command::Link(command), Said::Link(outcome)) => {
                 self.note_link(before, command, outcome);
+                self.note_order(before, command, outcome);
+                if let Some(sent) = bus::sent(frame, outcome) {
+                    self.note_sent(before, sent);
+                }
             }
             (_, Said::Chain(ChainOutcome::Join(joined))) => {
                 self.event("join-message", joined.length > 0);
@@ -166,8 +182,40 @@ impl Tally {
         }
     }
 
+    fn note_order(&mut self, before: &State, command: &LinkCommand<'_>, outcome: &Outcome) {
+        if outcome.answer != answer::OUT_OF_RANGE {
+            return;
+        }
+        match command {
+            LinkCommand::Start(settings) => {
+                self.event("start-1-by-order", with_right_order(settings).in_range());
+            }
+            _ => {
+                let state = State {
+                    settings: with_right_order(&before.settings),
+                    ..*before
+                };
+                self.event("state-1-by-order", state.well_formed());
+            }
+        }
+    }
+
+    fn note_sent(&mut self, before: &State, sent: &[u8]) {
+        let name = match before.settings.hear(sent) {
+            Heard::Reset => "high-first-sends-reset",
+            Heard::Ack(_) => "high-first-sends-ack",
+            Heard::Nak(_) => "high-first-sends-nak",
+            Heard::Data(_) => "high-first-sends-data",
+            _ => return,
+        };
+        self.event(name, before.settings.high_first());
+    }
+
     fn note_take(&mut self, before: &State, frame: &[u8], outcome: &Outcome) {
         let sent = outcome.sent > 0;
+        if outcome.answer == answer::FRAME_SUM {
+            self.note_wrong_sum(before, frame);
+        }
         match outcome.answer {
             answer::FRAME_SIZE | answer::FRAME_SUM | answer::UNUSED_CODE | answer::FRAME_LENGTH => {
                 self.event("nak-sent", sent);
@@ -180,10 +228,21 @@ impl Tally {
         }
     }
 
+    fn note_wrong_sum(&mut self, before: &State, frame: &[u8]) {
+        let mut turned = frame.to_vec();
+        frame::turn(&mut turned);
+        let heard = before.settings.hear(&turned);
+        self.event("take-6-other-order", heard != Heard::Sum);
+        self.event("take-6-reset-in-other-order", heard == Heard::Reset);
+    }
+
     fn note_heard(&mut self, before: &State, frame: &[u8], outcome: &Outcome) {
         let sent = outcome.sent > 0;
-        match hear(frame, before.settings.data_reg_len) {
-            Heard::Reset => self.event("reset-drops", outcome.dropped > 0),
+        match before.settings.hear(frame) {
+            Heard::Reset => {
+                self.event("reset-drops", outcome.dropped > 0);
+                self.event("high-first-takes-reset", before.settings.high_first());
+            }
             Heard::Ack(_) => self.note_ack(before, outcome),
             Heard::Nak(k) => {
                 self.event("take-repeat", sent);
@@ -213,6 +272,10 @@ impl Tally {
         );
         self.event("take-delivered-with-repeat", delivered && repeated);
         self.event("delivery-clears-nak", delivered && before.nak_mark);
+        self.event(
+            "high-first-delivers",
+            delivered && before.settings.high_first(),
+        );
         self.event(
             "delivery-keeps-timer",
             delivered && !repeated && before.acking,
@@ -250,6 +313,14 @@ impl Tally {
         let wrapped = elapsed(start, now) < HALF;
         self.event("wrapped-clock-due", now < start && wrapped);
         self.event("backward-clock-due", now < start && !wrapped);
+    }
+}
+
+/// Where these pass, what was refused is the order alone.
+fn with_right_order(settings: &Settings) -> Settings {
+    Settings {
+        order: frame::LOW_FIRST,
+        ..*settings
     }
 }
 

@@ -19,7 +19,11 @@ const PACKET_BEGIN: usize = 3;
 #[derive(Debug, PartialEq, Eq)]
 enum Left<'a> {
     Checksum(&'a [u8]),
-    Hear { data_reg_len: u16, frame: &'a [u8] },
+    Hear {
+        data_reg_len: u16,
+        frame: &'a [u8],
+        order: u8,
+    },
     Script(Command<'a>),
 }
 
@@ -84,6 +88,7 @@ fn read_left<'a>(left: &[u8], scratch: &'a mut Vec<u8>) -> Option<Left<'a>> {
         b"hear" => Left::Hear {
             data_reg_len: fields.u16()?,
             frame: fields.bytes()?,
+            order: fields.u8_or_0()?,
         },
         word => Left::Script(Command::of(word, &mut fields)?),
     };
@@ -98,7 +103,8 @@ fn right_side(asked: &Left<'_>, rig: &mut Rig, out: &mut Vec<u8>) {
         Left::Hear {
             data_reg_len,
             frame,
-        } => heard_side(hear(frame, *data_reg_len), out),
+            order,
+        } => heard_side(hear(frame, *data_reg_len, *order), out),
         Left::Script(Command::Link(command)) => link_side(&mut rig.link, command, out),
         Left::Script(Command::Chain(command)) => chain_side(&mut rig.chain, command, out),
     }

@@ -1,4 +1,4 @@
-//! Frames: FCTR, LEN (high byte first), the packet, FCS (low byte first).
+//! Frames: FCTR, LEN (high byte first), the packet, FCS (in the order that is set, R3.8).
 
 use crate::answer;
 use crate::checksum::checksum;
@@ -6,7 +6,38 @@ use crate::checksum::checksum;
 /// What a frame adds to its packet: FCTR, LEN and FCS.
 pub const OVERHEAD: u16 = 5;
 
-pub const RESET_FRAME: [u8; 5] = [0xC0, 0x00, 0x00, 0x9A, 0x0A];
+pub const RESET_CODE: u8 = 0xC0;
+
+pub const LOW_FIRST: u8 = 0;
+pub const HIGH_FIRST: u8 = 1;
+
+/// R2.1: the orders of FCS.
+pub const ORDERS: [u8; 2] = [LOW_FIRST, HIGH_FIRST];
+
+/// A number that is no order means the low byte first: the link refuses it before, but a frame
+/// may be heard without an end.
+#[inline]
+pub fn fcs(covered: &[u8], order: u8) -> [u8; 2] {
+    let sum = checksum(covered);
+    match order {
+        HIGH_FIRST => sum.to_be_bytes(),
+        _ => sum.to_le_bytes(),
+    }
+}
+
+/// R3.8: what is right in one order becomes right in the other, and nothing else changes.
+pub fn turn(frame: &mut [u8]) {
+    if let Some(fcs) = frame.last_chunk_mut::<2>() {
+        fcs.swap(0, 1);
+    }
+}
+
+/// What is right with the low byte first becomes right in this order.
+pub fn turn_from_low(frame: &mut [u8], order: u8) {
+    if order == HIGH_FIRST {
+        turn(frame);
+    }
+}
 
 /// A received frame after steps 1 to 4: what they refuse it for, or what it says.
 #[derive(Clone, Copy, Debug, PartialEq, Eq)]
@@ -64,24 +95,24 @@ pub fn nak_code(number: u8) -> u8 {
 }
 
 #[inline]
-pub fn hear(frame: &[u8], data_reg_len: u16) -> Heard {
+pub fn hear(frame: &[u8], data_reg_len: u16, order: u8) -> Heard {
     // R4.1: the size decides before the checksum, which so never runs over more than D bytes.
     let Some(length) = packet_room(frame.len(), data_reg_len) else {
         return Heard::Size;
     };
-    let Some((covered, fcs)) = frame.split_last_chunk::<2>() else {
+    let Some((covered, end)) = frame.split_last_chunk::<2>() else {
         return Heard::Size;
     };
     let Some(&[fctr, high, low]) = covered.first_chunk::<3>() else {
         return Heard::Size;
     };
-    if checksum(covered) != u16::from_le_bytes(*fcs) {
+    if fcs(covered, order) != *end {
         return Heard::Sum;
     }
     let told = u16::from_be_bytes([high, low]);
     match fctr {
         0x00..=0x0F | 0x20..=0x2F => data(fctr, told, length),
-        0x80..=0x83 | 0xA0..=0xA3 | 0xC0 => control(fctr, told, length),
+        0x80..=0x83 | 0xA0..=0xA3 | RESET_CODE => control(fctr, told, length),
         _ => Heard::Code,
     }
 }
@@ -123,7 +154,7 @@ fn data(fctr: u8, told: u16, length: u16) -> Heard {
 /// Writes a frame and tells its size; bytes behind it stay. A buffer too short for
 /// it is left alone and 0 is told, which the link's check 2 keeps from happening.
 #[inline]
-pub fn write(buffer: &mut [u8], fctr: u8, packet: &[u8]) -> u16 {
+pub fn write(buffer: &mut [u8], order: u8, fctr: u8, packet: &[u8]) -> u16 {
     let Ok(length) = u16::try_from(packet.len()) else {
         return 0;
     };
@@ -133,7 +164,7 @@ pub fn write(buffer: &mut [u8], fctr: u8, packet: &[u8]) -> u16 {
     let Some(frame) = buffer.get_mut(..usize::from(size)) else {
         return 0;
     };
-    let Some((covered, fcs)) = frame.split_last_chunk_mut::<2>() else {
+    let Some((covered, end)) = frame.split_last_chunk_mut::<2>() else {
         return 0;
     };
     let Some((head, body)) = covered.split_first_chunk_mut::<3>() else {
@@ -142,6 +173,6 @@ pub fn write(buffer: &mut [u8], fctr: u8, packet: &[u8]) -> u16 {
     let [high, low] = length.to_be_bytes();
     *head = [fctr, high, low];
     body.copy_from_slice(packet);
-    *fcs = checksum(covered).to_le_bytes();
+    *end = fcs(covered, order);
     size
 }

@@ -15,6 +15,8 @@ pub struct Settings {
     pub window: u8,
     /// TRANS_REPEAT
     pub repeats: u8,
+    /// of the two bytes of FCS: R3.8
+    pub order: u8,
 }
 
 impl Settings {
@@ -27,6 +29,19 @@ impl Settings {
             && self.acknowledge_timeout >= 1
             && self.acknowledge_timeout < self.transmit_timeout
             && (1..=4).contains(&self.repeats)
+            && frame::ORDERS.contains(&self.order)
+    }
+
+    /// For what is counted: which byte goes where is for `frame` alone to know.
+    #[inline]
+    pub fn high_first(&self) -> bool {
+        self.order == frame::HIGH_FIRST
+    }
+
+    /// Steps 1 to 4 at an end with these settings.
+    #[inline]
+    pub fn hear(&self, received: &[u8]) -> Heard {
+        frame::hear(received, self.data_reg_len, self.order)
     }
 
     /// m, PCTR included. A DATA_REG_LEN below 5 is out of range but may be asked about.
@@ -217,13 +232,19 @@ fn refusal_or_lost(state: &State, slots: &[u8], frame: &[u8]) -> Option<u8> {
     refusal(state, slots, frame).or(state.lost.then_some(answer::LINK_LOST))
 }
 
+/// R3.8: whatever goes out has the order that is set.
+#[inline]
+fn send(state: &State, fctr: u8, packet: &[u8], frame: &mut [u8]) -> u16 {
+    frame::write(frame, state.settings.order, fctr, packet)
+}
+
 /// R5.6, R5.8: made of this moment's numbers; the acknowledge timer is off, and its start time
 /// stays.
 #[inline]
 fn send_data(state: &mut State, number: u8, packet: &[u8], frame: &mut [u8]) -> u16 {
     state.acking = false;
     let fctr = frame::data_code(number, state.last_correct());
-    frame::write(frame, fctr, packet)
+    send(state, fctr, packet, frame)
 }
 
 /// Made anew from the slot: stored frame bytes would carry an old ACK.
@@ -243,7 +264,7 @@ fn repeat(state: &mut State, number: u8, slots: &[u8], frame: &mut [u8], now: u3
 #[inline]
 fn send_ack(state: &mut State, frame: &mut [u8]) -> u16 {
     state.acking = false;
-    frame::write(frame, frame::ack_code(state.last_correct()), &[])
+    send(state, frame::ack_code(state.last_correct()), &[], frame)
 }
 
 pub fn start(settings: Settings, slots: &[u8]) -> Outcome {
@@ -305,7 +326,7 @@ pub fn take(
     if let Some(answer) = refusal_or_lost(&state, slots, frame) {
         return Outcome::plain(state, answer);
     }
-    let heard = frame::hear(received, state.settings.data_reg_len);
+    let heard = state.settings.hear(received);
     match heard {
         Heard::Size | Heard::Sum | Heard::Code | Heard::Length => {
             object(state, frame, heard.refusal())
@@ -336,7 +357,7 @@ fn object(mut state: State, frame: &mut [u8], answer: u8) -> Outcome {
         return Outcome::plain(state, answer);
     }
     state.nak_mark = true;
-    let sent = frame::write(frame, frame::nak_code(state.expected), &[]);
+    let sent = send(&state, frame::nak_code(state.expected), &[], frame);
     Outcome::sending(state, answer, sent)
 }
 
@@ -412,11 +433,7 @@ pub fn resynchronise(state: State, slots: &[u8], frame: &mut [u8], _now: u32) ->
     if let Some(answer) = refusal(&state, slots, frame) {
         return Outcome::plain(state, answer);
     }
-    let mut sent = 0;
-    if let Some(head) = frame.first_chunk_mut() {
-        *head = frame::RESET_FRAME;
-        sent = frame::OVERHEAD;
-    }
+    let sent = send(&state, frame::RESET_CODE, &[], frame);
     Outcome {
         dropped: state.waiting,
         ..Outcome::sending(State::fresh(state.settings), answer::DONE, sent)

@@ -97,6 +97,7 @@ fn search_rounds(seed: u64, histories: u64) -> io::Result<bool> {
     writeln!(out, "histories {}", report.histories)?;
     writeln!(out, "lost {}", report.lost)?;
     writeln!(out, "through {}", report.through)?;
+    writeln!(out, "high-first {}", report.high_first)?;
     writeln!(out, "packets {}", report.packets)?;
     writeln!(out, "largest {}", report.largest)?;
     out.flush()?;

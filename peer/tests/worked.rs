@@ -51,6 +51,23 @@ hear 65535 800000EC -> 17 size
 hear 16 800000EC0D -> 6 checksum
 hear 16 0000000000 -> 18 length
 
+hear 16 8000000CEC 1 -> 0 ack 0
+hear 16 8100005630 1 -> 0 ack 1
+hear 16 A000000FD7 1 -> 0 nak 0
+hear 16 C000000A9A 001 -> 0 reset
+hear 16 030001003C15 1 -> 0 data 0 ack 3, 1 bytes
+hear 16 0000000000 1 -> 18 length
+hear 16 800000EC0C 1 -> 6 checksum
+hear 16 C000009A0A 1 -> 6 checksum
+hear 16 8000000CEC -> 6 checksum
+hear 16 8000000CEC 0 -> 6 checksum
+hear 16 8000000CEC 2 -> 6 checksum
+hear 16 8000000CEC 255 -> 6 checksum
+hear 16 800000EC0C 0 -> 0 ack 0
+hear 16 800000EC0C 2 -> 0 ack 0
+hear 16 800000EC0C 255 -> 0 ack 0
+hear 5 030001003C15 1 -> 17 size
+
 # examples 7 to 9 and 5
 lend 22 16
 start 16 2 100 50 3 -> 0 - - 0
@@ -85,6 +102,23 @@ look 100 -> 3 - - 0
 resynchronise 100 -> 0 C000009A0A - 2
 state 65535 255 65535 65535 255 255 255 255 65535 65535 0 0 255 255 1 0 1 1
 look 0 -> 1 - - 0
+
+# the high byte of FCS first: examples 2, 4, 5 and 6 to 9, a reset of the other order, other numbers
+start 16 2 100 50 3 1 -> 0 - - 0
+take 0 C000009A0A -> 6 A000000FD7 - 0
+take 0 C000000A9A -> 0 - - 0
+take 0 0000000000 -> 18 A000000FD7 - 0
+take 7 030001003C15 -> 0 - 00 0
+take 8 030001003C15 -> 9 8000000CEC - 0
+resynchronise 9 -> 0 C000000A9A - 0
+submit 10 00 -> 0 030001003C15 - 0
+start 16 2 100 50 3 0 -> 0 - - 0
+take 0 C000000A9A -> 6 A00000D70F - 0
+start 16 2 100 50 3 2 -> 1 - - 0
+state 16 2 100 50 3 0 0 0 0 0 0 0 0 0 0 0 0 0 1
+resynchronise 0 -> 0 C000000A9A - 0
+state 16 2 100 50 3 0 0 0 0 0 0 0 0 0 0 0 0 0 255
+resynchronise 0 -> 1 - - 0
 
 # example 12: an acknowledge timeout of 10
 state 16 2 100 10 3 0 1 0 0 0 0 0 0 0 1 4294967290 0 0
@@ -145,7 +179,7 @@ fn wrong_right_sides_are_corrected() {
             wrong += 1;
         }
     }
-    assert_eq!(wrong, 6 * 68);
+    assert_eq!(wrong, 6 * 97);
 }
 
 #[test]
@@ -219,7 +253,7 @@ fn delivered_and_repeated_bytes() {
     assert_right(&lines.join("\n"));
 }
 
-const BAD: [&str; 28] = [
+const BAD: [&str; 32] = [
     " ",
     " #",
     "\r",
@@ -238,6 +272,10 @@ const BAD: [&str; 28] = [
     "hear - -> 17 size",
     "hear 65536 - -> 17 size",
     "hear 16 - - -> 17 size",
+    "hear 16 - 256 -> 17 size",
+    "hear 16 - 0 0 -> 17 size",
+    "hear 16 -  -> 17 size",
+    "hear 16 1 - -> 17 size",
     "hear 16  - -> 17 size",
     "look -> 1 - - 0",
     "look 0->1 - - 0",

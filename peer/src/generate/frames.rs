@@ -4,8 +4,19 @@ use crate::frame;
 use crate::link::State;
 use crate::random::Random;
 
-/// Any frame, chosen so that what it says often concerns what waits.
+/// Any frame, mostly in the order of FCS that the end has, so that the later steps are reached.
 pub fn any_frame(random: &mut Random, state: &State) -> Vec<u8> {
+    let mut frame = low_first(random, state);
+    frame::turn_from_low(&mut frame, state.settings.order);
+    if random.percent(5) {
+        frame::turn(&mut frame);
+    }
+    frame
+}
+
+/// Chosen so that what it says often concerns what waits. All is made with the low byte of FCS
+/// first: turned round it is right and wrong in the same ways in the other order.
+fn low_first(random: &mut Random, state: &State) -> Vec<u8> {
     match random.below(100) {
         0..=11 => control(0x80 | number(random, state)),
         12..=27 => control(0xA0 | number(random, state)),
@@ -20,25 +31,19 @@ pub fn any_frame(random: &mut Random, state: &State) -> Vec<u8> {
     }
 }
 
-/// A frame with bytes changed, lost or added. A zero behind leaves the sum right, since it
-/// is 0 over a frame with its FCS, so that later steps have to refuse the frame.
+/// A frame with bytes changed, lost or added. Where the low byte of FCS goes first a zero
+/// behind leaves the sum right, since it is 0 over a frame with its FCS, so that later steps have
+/// to refuse the frame.
 pub fn damaged(random: &mut Random, frame: &[u8]) -> Vec<u8> {
     let mut frame = frame.to_vec();
     match random.below(9) {
         0 => frame.truncate(random.index(frame.len())),
         1 => frame.push(random.word() as u8),
         2 => frame.push(0),
-        3 => swap_sum(&mut frame),
+        3 => frame::turn(&mut frame),
         _ => flip(random, &mut frame),
     }
     frame
-}
-
-/// FCS high byte first, as the other fields are.
-fn swap_sum(frame: &mut [u8]) {
-    if let Some(sum) = frame.last_chunk_mut::<2>() {
-        sum.swap(0, 1);
-    }
 }
 
 fn flip(random: &mut Random, frame: &mut [u8]) {
@@ -50,8 +55,8 @@ fn flip(random: &mut Random, frame: &mut [u8]) {
 
 /// A right checksum behind any bytes.
 fn sealed(mut bytes: Vec<u8>) -> Vec<u8> {
-    let sum = crate::checksum::checksum(&bytes);
-    bytes.extend_from_slice(&sum.to_le_bytes());
+    let fcs = frame::fcs(&bytes, frame::LOW_FIRST);
+    bytes.extend_from_slice(&fcs);
     bytes
 }
 

@@ -5,7 +5,7 @@ use crate::script::LINE_LIMIT;
 
 const SILENT: [&str; 5] = ["", "#", "# note", "#look 5", "# \u{7f}\t\r"];
 
-const BAD: [&str; 64] = [
+const BAD: [&str; 71] = [
     " ",
     "  ",
     "\r",
@@ -62,9 +62,16 @@ const BAD: [&str; 64] = [
     "start 16 1 2 1",
     "start 65536 1 2 1 1",
     "start 16 256 2 1 1",
-    "start 16 1 2 1 1 0",
+    "start 16 1 2 1 1 ",
+    "start 16 1 2 1 1 -",
+    "start 16 1 2 1 1 256",
+    "start 16 1 2 1 1 0 0",
     "state 16 1 2 1 1 0 0 0 0 0 0 0 0 0 0 0 0",
     "state 16 1 2 1 1 0 0 0 0 0 0 0 0 0 0 0 0 2",
+    "state 16 1 2 1 1 0 0 0 0 0 0 0 0 0 0 0 0 0 ",
+    "state 16 1 2 1 1 0 0 0 0 0 0 0 0 0 0 0 0 0 x1",
+    "state 16 1 2 1 1 0 0 0 0 0 0 0 0 0 0 0 0 0 256",
+    "state 16 1 2 1 1 0 0 0 0 0 0 0 0 0 0 0 0 0 1 0",
     "join 65536 0001",
     "join 11",
     "cut 11 0 1025 01",
@@ -105,9 +112,21 @@ fn rubbish(random: &mut Random) -> Vec<u8> {
     line
 }
 
-/// Before the first number: a few, or as many as just make the longest line allowed.
-pub fn add_zeros(random: &mut Random, line: &mut Vec<u8>) {
-    let Some(space) = line.iter().position(|&byte| byte == b' ') else {
+/// Which field of a line; the last is a number only in lines that end in ORDER.
+pub enum Field {
+    First,
+    Last,
+}
+
+/// Before a number: a few, or as many as just make the longest line allowed.
+pub fn add_zeros(random: &mut Random, line: &mut Vec<u8>, field: Field) {
+    let mut bytes = line.iter();
+    let space = |&byte: &u8| byte == b' ';
+    let place = match field {
+        Field::First => bytes.position(space),
+        Field::Last => bytes.rposition(space),
+    };
+    let Some(space) = place else {
         return;
     };
     let zeros = match random.below(20) {

@@ -3,10 +3,13 @@
 
 use std::mem;
 
-use super::noise;
+use super::noise::{self, Field};
 use crate::link::Outcome;
 use crate::random::Random;
 use crate::script::{self, Command, LinkCommand, Rig, Said};
+
+/// An ORDER of 0 as it stands in its line.
+const LAST_0: &str = " 0";
 
 pub struct Scribe {
     pub random: Random,
@@ -67,13 +70,16 @@ impl Scribe {
         }
     }
 
-    /// Lines may be in lower case throughout and numbers may have leading zeros.
+    /// Lines may be in lower case throughout, numbers may have leading zeros, and an ORDER of 0
+    /// may be left out.
     fn write_command(&mut self, command: &Command<'_>) {
         let mut line = Vec::new();
         script::write(command, &mut line);
-        match self.random.below(100) {
-            0..=2 => line.make_ascii_lowercase(),
-            3 => noise::add_zeros(&mut self.random, &mut line),
+        match (self.random.below(100), command.order()) {
+            (0..=2, _) => line.make_ascii_lowercase(),
+            (3, _) => noise::add_zeros(&mut self.random, &mut line, Field::First),
+            (4..=5, Some(_)) => noise::add_zeros(&mut self.random, &mut line, Field::Last),
+            (6..=59, Some(0)) => line.truncate(line.len().saturating_sub(LAST_0.len())),
             _ => {}
         }
         self.write_line(&line);

@@ -3,6 +3,7 @@
 
 use super::frames;
 use super::scribe::Scribe;
+use crate::frame::ORDERS;
 use crate::link::{Settings, State};
 use crate::random::Random;
 use crate::script::LinkCommand;
@@ -34,6 +35,7 @@ pub fn settings(random: &mut Random) -> Settings {
         acknowledge_timeout,
         window: random.pick([1, 2, 2]),
         repeats: random.u8_between(1, 4),
+        order: random.pick(ORDERS),
     }
 }
 
@@ -209,7 +211,7 @@ fn broken(random: &mut Random, mut state: State) -> State {
 
 fn break_settings(random: &mut Random, settings: &mut Settings) {
     let timeout = settings.transmit_timeout;
-    match random.below(5) {
+    match random.below(6) {
         0 => settings.data_reg_len = random.pick([15, 15, 1025, 1025, 0, 4, 5, 65_535]),
         1 => settings.window = random.pick([0, 3, 255]),
         2 => {
@@ -217,6 +219,7 @@ fn break_settings(random: &mut Random, settings: &mut Settings) {
             settings.acknowledge_timeout = random.pick([0, 1, 1000]);
         }
         3 => settings.acknowledge_timeout = random.pick([0, timeout, timeout + 1, 65_535]),
+        4 => settings.order = random.pick([2, 2, 3, 128, 255]),
         _ => settings.repeats = random.pick([0, 5, 255]),
     }
 }
@@ -246,6 +249,7 @@ fn edge_settings(random: &mut Random) -> Settings {
         acknowledge_timeout: random.pick([1, transmit_timeout - 1]),
         window: random.pick([1, 2]),
         repeats: random.pick([1, 4]),
+        order: random.pick(ORDERS),
     };
     if random.percent(50) {
         break_settings(random, &mut settings);

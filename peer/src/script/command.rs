@@ -41,6 +41,14 @@ impl Command<'_> {
         is_call.then_some(self.word())
     }
 
+    /// ORDER, which is the last field of the lines that have it.
+    pub(crate) fn order(&self) -> Option<u8> {
+        match self {
+            Command::Link(command) => command.order(),
+            Command::Chain(_) => None,
+        }
+    }
+
     fn word(&self) -> &'static str {
         match self {
             Command::Link(command) => command.word(),

@@ -73,6 +73,14 @@ impl<'l, 'a> Fields<'l, 'a> {
         self.number(u32::from(u8::MAX))?.try_into().ok()
     }
 
+    /// A last field that may be left out, where 0 is meant.
+    pub(crate) fn u8_or_0(&mut self) -> Option<u8> {
+        match self.rest {
+            Some(_) => self.u8(),
+            None => Some(0),
+        }
+    }
+
     pub(super) fn mark(&mut self) -> Option<bool> {
         Some(self.number(1)? == 1)
     }

@@ -28,7 +28,7 @@ impl<'a> LinkCommand<'a> {
                 frame: fields.u16_to(LEND_LIMIT)?,
             },
             b"state" => LinkCommand::State(read_state(fields)?),
-            b"start" => LinkCommand::Start(read_settings(fields)?),
+            b"start" => LinkCommand::Start(read_start(fields)?),
             b"submit" => LinkCommand::Submit {
                 ms: fields.u32()?,
                 packet: fields.bytes()?,
@@ -64,7 +64,16 @@ impl LinkCommand<'_> {
         !matches!(self, LinkCommand::Lend { .. } | LinkCommand::State(_))
     }
 
-    /// The fields behind the word.
+    /// ORDER, which is the last field of the lines that have it.
+    pub(super) fn order(&self) -> Option<u8> {
+        match self {
+            LinkCommand::State(state) => Some(state.settings.order),
+            LinkCommand::Start(settings) => Some(settings.order),
+            _ => None,
+        }
+    }
+
+    /// The fields behind the word, ORDER too where it could be left out.
     pub(super) fn write_fields(&self, out: &mut Vec<u8>) {
         match *self {
             LinkCommand::Lend { slots, frame } => {
@@ -73,8 +82,12 @@ impl LinkCommand<'_> {
             LinkCommand::State(state) => {
                 then_numbers(&settings_numbers(&state.settings), out);
                 then_numbers(&state_numbers(&state), out);
+                then_order(&state.settings, out);
             }
-            LinkCommand::Start(settings) => then_numbers(&settings_numbers(&settings), out),
+            LinkCommand::Start(settings) => {
+                then_numbers(&settings_numbers(&settings), out);
+                then_order(&settings, out);
+            }
             LinkCommand::Submit { ms, packet } => {
                 then_numbers(&[ms], out);
                 then_hex(packet, out);
@@ -131,8 +144,8 @@ impl LinkRig {
         Some(outcome)
     }
 
-    /// ANSWER SENT DELIVERED DROPPED, the settings, the state and both buffers, whole because
-    /// the bytes that a call must leave alone are compared, too.
+    /// ANSWER SENT DELIVERED DROPPED, the settings, the state, both buffers, whole because
+    /// the bytes that a call must leave alone are compared, too, and ORDER.
     pub(super) fn print(&self, outcome: &Outcome, out: &mut Vec<u8>) {
         let told = [
             outcome.answer.into(),
@@ -145,7 +158,27 @@ impl LinkRig {
         then_numbers(&state_numbers(&outcome.state), out);
         then_hex(&self.slots, out);
         then_hex(&self.frame, out);
+        then_order(&outcome.state.settings, out);
     }
+}
+
+/// D WIN TRANS ACK REP [ORDER]
+fn read_start(fields: &mut Fields<'_, '_>) -> Option<Settings> {
+    let settings = read_settings(fields)?;
+    read_order(fields, settings)
+}
+
+/// ORDER stands apart from the other settings, at the end of its line, where lines that were
+/// written before it do without.
+fn read_order(fields: &mut Fields<'_, '_>, settings: Settings) -> Option<Settings> {
+    Some(Settings {
+        order: fields.u8_or_0()?,
+        ..settings
+    })
+}
+
+fn then_order(settings: &Settings, out: &mut Vec<u8>) {
+    then_numbers(&[settings.order.into()], out);
 }
 
 /// D WIN TRANS ACK REP
@@ -156,6 +189,7 @@ fn read_settings(fields: &mut Fields<'_, '_>) -> Option<Settings> {
         transmit_timeout: fields.u16()?,
         acknowledge_timeout: fields.u16()?,
         repeats: fields.u8()?,
+        ..Settings::default()
     })
 }
 
@@ -170,9 +204,9 @@ fn settings_numbers(settings: &Settings) -> [u32; 5] {
     ]
 }
 
-/// The settings, then NEXT to LOST.
+/// The settings, then NEXT to LOST, then ORDER.
 fn read_state(fields: &mut Fields<'_, '_>) -> Option<State> {
-    Some(State {
+    let state = State {
         settings: read_settings(fields)?,
         next: fields.u8()?,
         expected: fields.u8()?,
@@ -184,6 +218,10 @@ fn read_state(fields: &mut Fields<'_, '_>) -> Option<State> {
         acknowledge_start: fields.u32()?,
         nak_mark: fields.mark()?,
         lost: fields.mark()?,
+    };
+    Some(State {
+        settings: read_order(fields, state.settings)?,
+        ..state
     })
 }
 

@@ -2,13 +2,18 @@
 
 #![allow(dead_code)]
 
+use std::mem;
+
 use peer::checksum::checksum;
 use peer::link::{self, Outcome, Settings, State};
 
 pub const SLOT_FILL: u8 = 0xEE;
 pub const FRAME_FILL: u8 = 0xDD;
 
-/// m is 11.
+/// Of FCS: its low byte first, its high byte first.
+pub const ORDERS: [u8; 2] = [0, 1];
+
+/// m is 11, and the low byte of FCS goes first.
 pub fn settings() -> Settings {
     Settings {
         data_reg_len: 16,
@@ -16,6 +21,14 @@ pub fn settings() -> Settings {
         acknowledge_timeout: 4,
         window: 2,
         repeats: 2,
+        order: 0,
+    }
+}
+
+pub fn ordered(order: u8) -> Settings {
+    Settings {
+        order,
+        ..settings()
     }
 }
 
@@ -26,11 +39,20 @@ pub fn one_slot() -> Settings {
     }
 }
 
-/// Any bytes with their right checksum behind.
+/// Any bytes with their right checksum behind, its low byte first.
 pub fn sealed(bytes: &[u8]) -> Vec<u8> {
     let mut frame = bytes.to_vec();
     frame.extend_from_slice(&checksum(bytes).to_le_bytes());
     frame
+}
+
+/// The two bytes of FCS turned round.
+pub fn turned(frame: &[u8]) -> Vec<u8> {
+    let mut turned = frame.to_vec();
+    if let [.., first, second] = turned.as_mut_slice() {
+        mem::swap(first, second);
+    }
+    turned
 }
 
 pub fn control(fctr: u8) -> Vec<u8> {
@@ -125,7 +147,10 @@ impl Bench {
         };
         [
             on_copy("submit", |bench| bench.submit(3, &[1, 2])),
-            on_copy("take", |bench| bench.take(3, &control(0x83))),
+            on_copy("take", |bench| match bench.state.settings.order {
+                1 => bench.take(3, &turned(&control(0x83))),
+                _ => bench.take(3, &control(0x83)),
+            }),
             on_copy("look", |bench| bench.look(3)),
             on_copy("acknowledge", |bench| bench.acknowledge(3)),
             on_copy("resynchronise", |bench| bench.resynchronise(3)),
