@@ -54,13 +54,14 @@ pub struct Order {
     pub verb: usize,
 }
 
-const FIELDS: [u64; 13] = [
-    U16, // pair D WIN TRANS ACK REP CLOCK
+const FIELDS: [u64; 14] = [
+    U16, // pair D WIN TRANS ACK REP CLOCK ORDER
     U8,
     U16,
     U16,
     U8,
     U32,
+    U8,
     END_NAME, // lose END N, damage END N BYTES; look and its like END
     U32, // clock MS, wait MS
     BYTES,
@@ -72,18 +73,18 @@ const FIELDS: [u64; 13] = [
 
 fn form_of(verb: usize) -> Form {
     match verb {
-        SUBMIT => fields_from(11, 13, 2),
-        CARRY => fields_from(9, 11, 1),
-        LOSE => fields_from(6, 8, 2),
-        DAMAGE => fields_from(6, 9, 3),
-        WAIT => fields_from(7, 8, 1),
-        ROUND => fields_from(10, 11, 0),
-        CLOCK => fields_from(7, 8, 1),
-        PAIR => fields_from(0, 6, 5),
-        TELL => fields_from(12, 13, 0),
+        SUBMIT => fields_from(12, 14, 2),
+        CARRY => fields_from(10, 12, 1),
+        LOSE => fields_from(7, 9, 2),
+        DAMAGE => fields_from(7, 10, 3),
+        WAIT => fields_from(8, 9, 1),
+        ROUND => fields_from(11, 12, 0),
+        CLOCK => fields_from(8, 9, 1),
+        PAIR => fields_from(0, 7, 5),
+        TELL => fields_from(13, 14, 0),
         BAD => fields_from(0, 0, 1),
         _ => match verb <= RESYNCHRONISE {
-            true => fields_from(6, 7, 1),
+            true => fields_from(7, 8, 1),
             false => fields_from(0, 0, 0),
         },
     }

@@ -37,4 +37,5 @@ pub fn tell_ranges(s: Settings) {
     tell_outside(words::TRANS_RANGE, s.transtimeout, 2, 1001);
     tell_outside(words::ACK_RANGE, s.acktimeout, 1, s.transtimeout);
     tell_outside(words::REP_RANGE, s.repeats as u16, 1, 5);
+    tell_outside(words::ORDER_RANGE, s.format.order as u16, 0, 2);
 }

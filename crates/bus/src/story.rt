@@ -12,29 +12,18 @@ use ends::CHIP;
 use ends::DESK;
 use ends::Ends;
 use ends::Store;
-use frame::Format;
 use state::Settings;
 use text::field::Values;
 use text::field::u8_at;
-use text::field::u16_at;
 use text::field::u32_at;
 use text::input::Input;
 use text::lay;
 use text::lines;
 use text::lines::LONGEST;
 use text::lines::Reader;
+use text::settings::settings_of;
 
 // ---- a pair
-
-fn settings_of(v: Values) -> Settings {
-    Settings {
-        format: Format { d: u16_at(v, 0) },
-        transtimeout: u16_at(v, 2),
-        acktimeout: u16_at(v, 3),
-        window: u8_at(v, 1),
-        repeats: u8_at(v, 4),
-    }
-}
 
 fn tell_start(s: Settings, clock: u32, answer: u8) {
     say(words::CLOCK, clock as u64, 0, 0);
@@ -45,13 +34,14 @@ fn tell_start(s: Settings, clock: u32, answer: u8) {
         s.transtimeout as u64,
     );
     say(words::REPEATS, s.repeats as u64, s.acktimeout as u64, 0);
+    words::say_if(s.format.order == frame::HIGH_FIRST, words::HIGH_FIRST);
     reason::tell_ranges(s);
     say(words::END_LINE, 0, 0, 0);
 }
 
 // The story so far has its ending, and another begins.
 fn start(p: Ends, v: Values, store: &Store, book: &Book) -> Ends {
-    let s = settings_of(v);
+    let s = settings_of(v, u8_at(v, 6));
     let clock = u32_at(v, 5);
     ending::tell(book, p);
     let started = ends::start(s, clock, store);

@@ -26,7 +26,10 @@ pub const ROOM: usize = 4096;
 
 // Milliseconds, and TRANS_REPEAT, for a bus of 400 kHz. The other end needs the same.
 const SETTINGS: Settings = Settings {
-    format: Format { d: FRAME as u16 },
+    format: Format {
+        d: FRAME as u16,
+        order: frame::LOW_FIRST,
+    },
     transtimeout: 100,
     acktimeout: 50,
     window: WINDOW as u8,

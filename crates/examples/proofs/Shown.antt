@@ -1,18 +1,24 @@
--- Each row of the table, computed. Assumes nothing.
-use mathlib.Core.Path.{_≡_, refl, ap, _∙_}
+-- Each row of the table, once for both orders: what differs is how the bytes of FCS stand. Assumes nothing.
+use mathlib.Core.Path.{_≡_, refl, ap, sym, _∙_}
 use mathlib.Core.Bool.{true, false}
-use mathlib.Core.List.{List, [], _∷_}
-use Prim.Native.Nat.{ℕ, _≤_}
+use mathlib.Core.List.{List, [], _∷_, _++_}
+use Prim.Native.Nat.{ℕ, _/_, _%_, _≤_}
 use native.Mathlib.Omega.{arith}
-use borrow.Author.Tests.{le-ltb}
 use lib.ListN.{length}
-use lib.Dec.{ltb}
-use Rattle.base.specs.Answer.{done}
+use Rattle.base.specs.Answer.{done, unexpected, frameSum, frameLength}
+use Rattle.base.specs.Buffer.{put}
 use Rattle.fcs.specs.Checksum.{checksumOf}
-use Rattle.frame.specs.Bytes.{sealed, frameOf}
+use Rattle.frame.specs.declared.Format.{Format}
+use Rattle.frame.specs.declared.Heard.{Heard}
+use Rattle.frame.specs.declared.Heard.the-variants.{Sum, Length, Data}
+use Rattle.frame.specs.Bytes.{fcsBytes, sealed, frameOf, dataFrame, ackFrame, nakFrame, resetFrame}
 use Rattle.frame.specs.Steps.{heard, judged, packetIn}
+use Rattle.frame.specs.Orders.{other}
+use Rattle.frame.proofs.Hearing.{heard-framed, data-heard, resetFrame-framed}
+use Rattle.frame.proofs.Orders.{byOrder-other, zeros-framed, reset-other}
 use Rattle.state.specs.declared.Link.{Link}
 use Rattle.state.specs.declared.Outcome.{Outcome}
+use Rattle.state.specs.Fields.{withAcking, withNakmark}
 use Rattle.state.specs.State.{freshOf}
 use Rattle.state.specs.Gate.{After, after}
 use Rattle.state.specs.Formed.{Formed, Sound}
@@ -20,20 +26,22 @@ use Rattle.state.proofs.Facts.{inRange-facts, wellFormed-facts}
 use Rattle.state.proofs.Keeps.{fresh-sound, changed-sound, sound-open}
 use Rattle.receive.specs.Take.{obeyed, frameTaken}
 use Rattle.receive.proofs.Facts.{frameTaken-open}
-use Rattle.examples.specs.Table.{End, example6Taken, delivered0, told, Table}
+use Rattle.examples.specs.Table.{asGiven, turnedRound, End, taken, delivered0, told, data0, Table, Examples}
 
--- an end of the table that is not lost hears the frame
-opened : (e : End) (l : Link) (ms : ℕ) (received : List ℕ) → Sound l → l .lost ≡ false → l .settings ≡ e .settings
+-- ---- an end of the table
+
+-- not lost, it hears the frame
+opened : {order : ℕ} (e : End order) (l : Link) (ms : ℕ) (received : List ℕ) → Sound l → l .lost ≡ false → l .settings ≡ e .settings
     → frameTaken l (e .slots) (e .frame) ms received ≡ obeyed l (e .slots) (e .frame) ms (heard (l .settings .format) received)
 opened e l ms received s alive same =
     frameTaken-open l (e .slots) (e .frame) ms received
     (sound-open l (length (e .slots)) (length (e .frame)) s alive (rw same (e .slots-room)) (rw same (e .frame-room)))
 
-fresh-end : (e : End) → Sound (freshOf (e .settings))
+fresh-end : {order : ℕ} (e : End order) → Sound (freshOf (e .settings))
 fresh-end e = fresh-sound (e .settings) (inRange-facts (e .settings) (e .range))
 
 -- the end that example 8 leaves
-after-example8 : (e : End) → Sound (delivered0 e)
+after-example8 : {order : ℕ} (e : End order) → Sound (delivered0 e)
 unfolding freshOf
 after-example8 e =
     let s : Sound (freshOf (e .settings)) = fresh-end e in
@@ -41,37 +49,113 @@ after-example8 e =
     changed-sound (freshOf (e .settings)) (0 ∷ 0 ∷ []) (0 ∷ 0 ∷ []) (e .ms) 1 0 true false false s refl refl (omega arith) (omega arith) (f .repeated)
 
 -- D is at least 16
-longer : (e : End) (size : ℕ) → size ≤ 16 → ltb (e .settings .format .d) size ≡ false
-longer e size h = le-ltb (e .settings .format .d) size (omega (arith, inRange-facts (e .settings) (e .range) .d-lo))
+six-fit : {order : ℕ} (e : End order) → 6 ≤ e .settings .format .d
+six-fit e = omega (arith, inRange-facts (e .settings) (e .range) .d-lo)
 
--- example 6's frame
-abbrev six : List ℕ
-six = 0x03 ∷ 0x00 ∷ 0x01 ∷ 0x00 ∷ 0x15 ∷ 0x3C ∷ []
+-- fresh, it answers a frame that it hears as this
+answered : {order : ℕ} (e : End order) (received : List ℕ) (h : Heard) → heard (e .settings .format) received ≡ h
+    → taken e received ≡ obeyed (freshOf (e .settings)) (e .slots) (e .frame) (e .ms) h
+unfolding freshOf
+answered e received h same =
+    opened e (freshOf (e .settings)) (e .ms) received (fresh-end e) refl refl
+    ∙ ap (obeyed (freshOf (e .settings)) (e .slots) (e .frame) (e .ms)) same
 
-delivered : (e : End) → example6Taken e ≡ after (told (delivered0 e) done 0 1) (e .slots) (e .frame)
-unfolding checksumOf frameOf sealed freshOf heard judged obeyed
-delivered e = opened e (freshOf (e .settings)) (e .ms) six (fresh-end e) refl refl ∙ rw (longer e 6 (omega arith))
+-- ---- in one order
 
-abbrev second : ℕ → After Outcome → After Outcome
-second later a = frameTaken (a .told .state) (a .slots) (a .frame) later six
+module _ (order : ℕ) (fcs : ℕ → ℕ → List ℕ) (stand : (format : Format) → format .order ≡ order → (sum : ℕ) → fcsBytes format sum ≡ fcs (sum % 256) (sum / 256)) where
+  laid : (format : Format) → format .order ≡ order → (covered : List ℕ)
+      → sealed format covered ≡ covered ++ fcs (checksumOf covered % 256) (checksumOf covered / 256)
+  unfolding sealed
+  laid format same covered = ap (λ (bytes : List ℕ). covered ++ bytes) (stand format same (checksumOf covered))
 
-pub shown : Table
-unfolding checksumOf frameOf sealed freshOf heard judged obeyed
+  -- the two frames that the examples' ends send
+  nak0 : (format : Format) → format .order ≡ order → nakFrame format 0 ≡ 0xA0 ∷ 0x00 ∷ 0x00 ∷ fcs 0xD7 0x0F
+  unfolding frameOf checksumOf
+  nak0 format same = laid format same (0xA0 ∷ 0x00 ∷ 0x00 ∷ [])
+
+  ack0 : (format : Format) → format .order ≡ order → ackFrame format 0 ≡ 0x80 ∷ 0x00 ∷ 0x00 ∷ fcs 0xEC 0x0C
+  unfolding frameOf checksumOf
+  ack0 format same = laid format same (0x80 ∷ 0x00 ∷ 0x00 ∷ [])
+
+  data0-framed : (format : Format) → format .order ≡ order → dataFrame format 0 3 (0x00 ∷ []) ≡ data0 fcs
+  unfolding frameOf checksumOf
+  data0-framed format same = laid format same (0x03 ∷ 0x00 ∷ 0x01 ∷ 0x00 ∷ [])
+
+  zeros-heard : (format : Format) → 5 ≤ format .d → heard format (0x00 ∷ 0x00 ∷ 0x00 ∷ 0x00 ∷ 0x00 ∷ []) ≡ Length
+  unfolding judged
+  zeros-heard format h = ap (heard format) (zeros-framed format) ∙ heard-framed format 0x00 [] h
+
+  data0-heard : (format : Format) → format .order ≡ order → 6 ≤ format .d → heard format (data0 fcs) ≡ Data 0 false 3 1
+  data0-heard format same h =
+      ap (heard format) (sym (data0-framed format same)) ∙ data-heard format 0 3 (0x00 ∷ []) (omega arith) (omega arith) (omega arith) h
+
+  -- in the other order the sum's two bytes change places
+  reset-turned : (format : Format) → format .order ≡ order → 0xC0 ∷ 0x00 ∷ 0x00 ∷ fcs 0x0A 0x9A ≡ resetFrame (other format)
+  unfolding frameOf sealed checksumOf
+  reset-turned format same =
+      ap (λ (bytes : List ℕ). 0xC0 ∷ 0x00 ∷ 0x00 ∷ bytes) (sym (stand format same 0x9A0A))
+      ∙ sym (rw (resetFrame-framed (other format), byOrder-other {A = ℕ} format 0x9A 0x0A, byOrder-other {A = ℕ} format 0x0A 0x9A))
+
+  reset-refused : (format : Format) → format .order ≡ order → 5 ≤ format .d → heard format (0xC0 ∷ 0x00 ∷ 0x00 ∷ fcs 0x0A 0x9A) ≡ Sum
+  reset-refused format same h = ap (heard format) (reset-turned format same) ∙ reset-other format h
+
+  delivered : (e : End order) → taken e (data0 fcs) ≡ after (told (delivered0 e) done 0 1) (e .slots) (e .frame)
+  unfolding freshOf obeyed
+  delivered e = answered e (data0 fcs) (Data 0 false 3 1) (data0-heard (e .settings .format) (e .ordered) (six-fit e))
+
+  -- a fresh end sends its NAK
+  refused : (e : End order) (received : List ℕ) (h : Heard) (answer : ℕ) → heard (e .settings .format) received ≡ h
+      → obeyed (freshOf (e .settings)) (e .slots) (e .frame) (e .ms) h ≡ after (told (withNakmark (freshOf (e .settings)) true) answer 5 0) (e .slots) (put (e .frame) 0 (nakFrame (e .settings .format) 0))
+      → taken e received ≡ after (told (withNakmark (freshOf (e .settings)) true) answer 5 0) (e .slots) (put (e .frame) 0 (0xA0 ∷ 0x00 ∷ 0x00 ∷ fcs 0xD7 0x0F))
+  refused e received h answer same sent =
+      answered e received h same
+      ∙ sent
+      ∙ ap (λ (bytes : List ℕ). after (told (withNakmark (freshOf (e .settings)) true) answer 5 0) (e .slots) (put (e .frame) 0 bytes)) (nak0 (e .settings .format) (e .ordered))
+
+  second : (e : End order) (later : ℕ) → frameTaken (delivered0 e) (e .slots) (e .frame) later (data0 fcs)
+      ≡ after (told (withAcking (delivered0 e) false) unexpected 5 0) (e .slots) (put (e .frame) 0 (ackFrame (e .settings .format) 0))
+  unfolding freshOf obeyed frameOf sealed
+  second e later =
+      opened e (delivered0 e) later (data0 fcs) (after-example8 e) refl refl
+      ∙ ap (obeyed (delivered0 e) (e .slots) (e .frame) later) (data0-heard (e .settings .format) (e .ordered) (six-fit e))
+
+  table : Table order fcs
+  unfolding checksumOf frameOf sealed freshOf obeyed
+  table = record {
+    example1 = refl;
+    example2 = λ d. ack0 (record { d = d; order = order }) refl;
+    example3 = λ d. laid (record { d = d; order = order }) refl (0x81 ∷ 0x00 ∷ 0x00 ∷ []);
+    example4 = λ d. nak0 (record { d = d; order = order }) refl;
+    example5 = λ d. laid (record { d = d; order = order }) refl (0xC0 ∷ 0x00 ∷ 0x00 ∷ []);
+    example5-reset = λ d. resetFrame-framed (record { d = d; order = order }) ∙ laid (record { d = d; order = order }) refl (0xC0 ∷ 0x00 ∷ 0x00 ∷ []);
+    example6 = λ d. data0-framed (record { d = d; order = order }) refl;
+    example7-sum = λ d. sym (zeros-framed (record { d = d; order = order }));
+    example7-step4 = λ d. zeros-heard (record { d = d; order = order });
+    example7 = λ e. refused e (0x00 ∷ 0x00 ∷ 0x00 ∷ 0x00 ∷ 0x00 ∷ []) Length frameLength (zeros-heard (e .settings .format) (omega (arith, six-fit e))) refl;
+    example8 = delivered;
+    example8-packet = λ e. ap (λ (a : After Outcome). packetIn (data0 fcs) (a .told .delivered)) (delivered e);
+    example9 = λ e later.
+        ap (λ (a : After Outcome). frameTaken (a .told .state) (a .slots) (a .frame) later (data0 fcs)) (delivered e)
+        ∙ second e later
+        ∙ ap (λ (bytes : List ℕ). after (told (withAcking (delivered0 e) false) unexpected 5 0) (e .slots) (put (e .frame) 0 bytes)) (ack0 (e .settings .format) (e .ordered));
+    example10 = λ a b c d e f g h i j. refl;
+    example11 = λ a b c d e f g h i j k. refl;
+    example12 = refl;
+    example14 = λ e. refused e (0xC0 ∷ 0x00 ∷ 0x00 ∷ fcs 0x0A 0x9A) Sum frameSum (reset-refused (e .settings .format) (e .ordered) (omega (arith, six-fit e))) refl;
+  }
+
+-- ---- in both
+
+pub shown : Examples
 shown = record {
-  example1 = refl;
-  example2 = λ format. refl;
-  example3 = λ format. refl;
-  example4 = λ format. refl;
-  example5 = λ format. refl;
-  example6 = λ format. refl;
-  example7-sum = λ format. refl;
-  example7-step4 = λ format h. rw (le-ltb (format .d) 5 h);
-  example7 = λ e. opened e (freshOf (e .settings)) (e .ms) (0x00 ∷ 0x00 ∷ 0x00 ∷ 0x00 ∷ 0x00 ∷ []) (fresh-end e) refl refl ∙ rw (longer e 5 (omega arith));
-  example8 = delivered;
-  example8-packet = λ e. ap (λ (a : After Outcome). packetIn six (a .told .delivered)) (delivered e);
-  example9 = λ e later. ap (second later) (delivered e)
-      ∙ opened e (delivered0 e) later six (after-example8 e) refl refl ∙ rw (longer e 6 (omega arith));
-  example10 = λ a b c d e f g h i j. refl;
-  example11 = λ a b c d e f g h i j k. refl;
-  example12 = refl;
+  low-first = low;
+  high-first = high;
+  chips-ack = high .example2;
+  chips-no-reset = high .example14;
 }
+  where
+    low : Table 0 asGiven
+    low = table 0 asGiven (λ format same sum. rw same)
+
+    high : Table 1 turnedRound
+    high = table 1 turnedRound (λ format same sum. rw same)

@@ -38,7 +38,7 @@ pub fcsAt-sealed : (format : Format) (covered : List ℕ) → fcsAt format (leng
 unfolding fcsAt sealed
 fcsAt-sealed format covered =
     rw (take-append-seam covered (fcsBytes format (checksumOf covered)), drop-append-seam covered (fcsBytes format (checksumOf covered)))
-    (sameBytes-refl (fcsBytes format (checksumOf covered)))
+    (search (sameBytes-refl))
 
 -- a whole frame within D passes step 1, and its FCTR and LEN are read back
 pub heard-framed : (format : Format) (fctr : ℕ) (packet : List ℕ) → length packet + 5 ≤ format .d

@@ -22,7 +22,7 @@ use Rattle.frame.proofs.Reasons.{fault-heard}
 
 -- ---- the two bytes
 
-byOrder-other : {A : Type 0} (format : Format) (a b : A) → byOrder (other format) a b ≡ byOrder format b a
+pub byOrder-other : {A : Type 0} (format : Format) (a b : A) → byOrder (other format) a b ≡ byOrder format b a
 byOrder-other format a b = go (eqb (format .order) highFirst) refl
   where
     go : (t : Bool) → eqb (format .order) highFirst ≡ t → byOrder (other format) a b ≡ byOrder format b a
@@ -136,7 +136,7 @@ right-other format frame h r differ =
     let x : ℕ = byOrder format (sum % 256) (sum / 256) in
     let y : ℕ = byOrder format (sum / 256) (sum % 256) in
     let swapped : fcsAt (other format) (length frame - 2) frame ≡ (eqb a y && (eqb b x && true)) =
-        rw (last-two frame h, byOrder-other format (sum % 256) (sum / 256), byOrder-other format (sum / 256) (sum % 256)) in
+    rw (last-two frame h, byOrder-other format (sum % 256) (sum / 256), byOrder-other format (sum / 256) (sum % 256)) in
     let found : (a ≡ y) × (b ≡ x) = same-two a b y x (sym swapped ∙ r) in
     rw (last-two frame h, ne-eqb a x (λ e. differ (e ∙ sym (found .1))))
 

@@ -17,6 +17,7 @@ pub struct Format {
 
 // R3.8, the two orders.
 pub const LOW_FIRST: u8 = 0;
+
 pub const HIGH_FIRST: u8 = 1;
 
 // What steps 1 to 4 make of a received frame; each refusal is a case of its own, with a number of its own (R12.7).
@@ -40,7 +41,11 @@ pub enum Heard {
 fn by_order(format: Format, low: u8, high: u8) -> u8
     ensures { λ r. ⌜ r ≡ byOrder format low high ⌝ }
 {
-    if format.order == HIGH_FIRST { high } else { low }
+    if format.order == HIGH_FIRST {
+        high
+    } else {
+        low
+    }
 }
 
 fn fcs_bytes(format: Format, sum: u16) -> [u8; 2]

@@ -15,7 +15,7 @@ use Rattle.frame.specs.Bytes.{frameOf, dataFrame, ackFrame, nakFrame, resetFram
 use Rattle.state.specs.declared.Settings.{Settings}
 use Rattle.state.specs.declared.Link.{Link}
 use Rattle.state.specs.declared.Outcome.{Outcome}
-use Rattle.state.specs.Fields.{withStarts, withRepeated, withExpected, withAcking, withNakmark, withLost}
+use Rattle.state.specs.Fields.{withSettings, withStarts, withRepeated, withExpected, withAcking, withNakmark, withLost}
 use Rattle.state.specs.State.{freshOf}
 use Rattle.state.specs.Gate.{After, refused}
 use Rattle.state.specs.Calls.{started, resynchronised}
@@ -24,15 +24,19 @@ use Rattle.send.specs.Submit.{submitted}
 use Rattle.receive.specs.Take.{frameTaken}
 use Rattle.receive.specs.Refusals.{answering}
 use Rattle.clock.specs.Look.{looked, acknowledgedNow}
-use Rattle.link.specs.FalseEnds.{StartCall, Call, LookCall, Bare, Change, submitBut, takeBut, outcomeOf, lookBut, Shows, instead, answers, leaving, refuse, repeat, pretend, invent, spareSlots, spareFrame, overrun, smear, lengthsFirst, lostFirst, refuseDone, stay, oneCount, takenHearing, TakenHearingTrue, lookedBy, lookedWhen, LookedWhenTrue, RefusalShut, ShutOut, ShutOutAlone}
+use Rattle.link.specs.FalseEnds.{StartCall, Call, LookCall, Bare, Change, submitBut, takeBut, outcomeOf, lookBut, Shows, instead, answers, leaving, refuse, repeat, pretend, invent, spareSlots, spareFrame, overrun, smear, lengthsFirst, lostFirst, refuseDone, stay, oneCount, alwaysIn, takenHearing, TakenHearingTrue, lookedBy, lookedWhen, LookedWhenTrue, RefusalShut, ShutOut, ShutOutAlone}
 
 -- ---- where they are tried
 
 abbrev format : Format
 format = record { d = 16; order = 0 }
 
+abbrev set-to : ℕ → ℕ → ℕ → Settings
+set-to order window acktimeout =
+    record { format = record { d = 16; order = order }; transtimeout = 100; acktimeout = acktimeout; window = window; repeats = 3 }
+
 abbrev timed : ℕ → ℕ → Settings
-timed window acktimeout = record { format = format; transtimeout = 100; acktimeout = acktimeout; window = window; repeats = 3 }
+timed = set-to 0
 
 abbrev settings : ℕ → Settings
 settings window = timed window 50
@@ -63,6 +67,10 @@ one = end 2 1 1
 abbrev two : Link
 two = end 2 2 2
 
+-- `one`, high byte first
+abbrev high : Link
+high = withSettings one (set-to 1 2 50)
+
 -- as many bytes as they need
 abbrev slots : List ℕ
 slots = replicate 22 0
@@ -80,6 +88,10 @@ packet = 1 ∷ []
 -- a data frame with ACK 3, which frees nothing
 abbrev numbered : ℕ → List ℕ
 numbered number = dataFrame format number 3 packet
+
+-- the last byte of the frame that was sent
+abbrev last-sent : After Outcome → ℕ
+last-sent a = getD (a .frame) (a .told .sent - 1) 0
 
 -- a mark, or whether the acknowledge timer runs, as a number
 abbrev bit : Bool → ℕ
@@ -218,6 +230,20 @@ shut-out = record {
   one-count =
       let wrong : _≢_ {A = ℕ} 0 1 = eqb-false 0 1 refl in
       each oneCount (λ call. call (withRepeated one (0 ∷ 4 ∷ [])) slots buffer .told .answer) wrong wrong wrong wrong wrong;
+  always-low-first =
+      each (alwaysIn 0) (λ call. last-sent (call high slots buffer))
+      (eqb-false 0x66 0x06 refl)
+      (eqb-false 0x05 0x6F refl)
+      (eqb-false 0x05 0x63 refl)
+      (eqb-false 0x56 0x30 refl)
+      (eqb-false 0x0A 0x9A refl);
+  always-high-first =
+      each (alwaysIn 1) (λ call. last-sent (call one slots buffer))
+      (eqb-false 0x06 0x66 refl)
+      (eqb-false 0x6F 0x05 refl)
+      (eqb-false 0x63 0x05 refl)
+      (eqb-false 0x30 0x56 refl)
+      (eqb-false 0x9A 0x0A refl);
   start = record {
     refuses = λ answer differs same. differs (ap (λ (f : StartCall). f (settings 2) 22 .answer) same);
     refuses-done = λ answer differs same. differs (ap (λ (f : StartCall). f (settings 2) 22 .answer) same);
@@ -229,6 +255,7 @@ shut-out = record {
     other-state-with-2 = λ other differs same. differs (ap (λ (f : StartCall). f (settings 2) 0 .state) same);
     acknowledge-as-long = λ same. eqb-false 0 1 refl (ap (λ (f : StartCall). f (timed 2 100) 22 .answer) same);
     window-of-three = λ same. eqb-false 0 1 refl (ap (λ (f : StartCall). f (settings 3) 33 .answer) same);
+    order-of-two = λ same. eqb-false 0 1 refl (ap (λ (f : StartCall). f (set-to 2 2 50) 22 .answer) same);
     marked = λ same. eqb-false 1 0 refl (ap (λ (f : StartCall). bit (f (settings 2) 22 .state .nakmark)) same);
   };
   submit = record {
@@ -264,6 +291,7 @@ shut-out = record {
     len-0 = λ same. eqb-false 0 18 refl (ap (λ (f : Call). f (withExpected one 0) slots buffer 0 (replicate 5 0) .told .answer) same);
     over-d = λ same. eqb-false 12 0 refl (ap (λ (f : Call). f one slots buffer 0 (dataFrame format 2 3 (replicate 12 1)) .told .delivered) same);
     sum-first = λ same. eqb-false 6 17 refl (ap (λ (f : Call). f one slots buffer 0 (replicate 17 1) .told .answer) same);
+    either-order = λ same. eqb-false 0 6 refl (ap (λ (f : Call). f high slots buffer 0 (resetFrame format) .told .answer) same);
     size = refusal-shut frameSize [] refl;
     sum = refusal-shut frameSum (0x80 ∷ 0 ∷ 0 ∷ 0 ∷ 0 ∷ []) refl;
     code = refusal-shut unusedCode (frameOf format 0x10 packet) refl;

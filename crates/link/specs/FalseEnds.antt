@@ -17,13 +17,15 @@ use Rattle.fcs.specs.Checksum.{byteStep}
 use Rattle.frame.specs.declared.Format.{Format}
 use Rattle.frame.specs.declared.Heard.{Heard}
 use Rattle.frame.specs.declared.Heard.the-variants.{Sum, ControlSize, Data}
-use Rattle.frame.specs.Bytes.{fcsBytes, sealed, frameOf, dataFrame, nakFrame, resetFrame}
+use Rattle.frame.specs.Bytes.{lowFirst, highFirst, fcsBytes, sealed, frameOf, dataFrame, nakFrame, resetFrame}
 use Rattle.frame.specs.Steps.{fctrOf, sameBytes, fcsAt, isControl, isNak, numberOf, acknowledgedOf, heard}
+use Rattle.frame.specs.Promises.{right}
+use Rattle.frame.specs.Orders.{other}
 use Rattle.state.specs.declared.Settings.{Settings}
 use Rattle.state.specs.declared.Link.{Link}
 use Rattle.state.specs.declared.Outcome.{Outcome}
 use Rattle.state.specs.Bounds.{limitOf, inRange, slotsNeed, frameNeed}
-use Rattle.state.specs.Fields.{withStarts, withAckstart, withRepeated, withExpected, withWaiting, withAcking, withNakmark, withLost}
+use Rattle.state.specs.Fields.{withSettings, withStarts, withAckstart, withRepeated, withExpected, withWaiting, withAcking, withNakmark, withLost}
 use Rattle.state.specs.State.{lastCorrect, sentBefore, slotOf, lengthOf, startOf, wellFormed, freshOf}
 use Rattle.state.specs.Timer.{due, acknowledgeDue}
 use Rattle.state.specs.Gate.{After, after, only, refused, gated, gateOf}
@@ -149,6 +151,23 @@ pretend call l slots frame =
 abbrev pub stay : Change
 stay = instead (answers done) (λ l slots frame right. leaving l right)
 
+-- a format with this order
+abbrev pub inOrder : Format → ℕ → Format
+inOrder format order = record { d = format .d; order = order }
+
+-- against R3.8: every frame is heard and sent in this order, whichever is set; what is set stays
+abbrev pub alwaysIn : ℕ → Change
+alwaysIn order call l slots frame =
+    let settings : Settings = l .settings in
+    let right : After Outcome = call (withSettings l (record {
+      format = inOrder (settings .format) order;
+      transtimeout = settings .transtimeout;
+      acktimeout = settings .acktimeout;
+      window = settings .window;
+      repeats = settings .repeats;
+    })) slots frame in
+    leaving (withSettings (right .told .state) settings) right
+
 -- R13.3, making up: so many more bytes delivered, or so many more packets dropped
 abbrev pub counting : ℕ → ℕ → Outcome → Outcome
 counting delivered dropped told = record {
@@ -272,11 +291,11 @@ startLeaving other answer s slots =
     let right : Outcome = started s slots in
     cond (eqb (right .answer) answer) (only other answer) right
 
--- against R2.1: content also with settings that would be in range with an acknowledge timeout, and a WIN_SIZE, less by so much
-abbrev pub startMore : ℕ → ℕ → StartCall
-startMore acktimeout window s slots =
+-- against R2.1: content also with settings that would be in range with an acknowledge timeout, a WIN_SIZE and an order less by so much
+abbrev pub startMore : ℕ → ℕ → ℕ → StartCall
+startMore acktimeout window order s slots =
     let less : Settings = record {
-      format = s .format;
+      format = inOrder (s .format) (s .format .order - order);
       transtimeout = s .transtimeout;
       acktimeout = s .acktimeout - acktimeout;
       window = s .window - window;
@@ -503,6 +522,10 @@ hearsSumFirst format received = cond (fcsAt format (length received - 2) receive
 abbrev pub hearsLonger : Format → List ℕ → Heard
 hearsLonger format = heard (record { d = format .d + 1; order = format .order })
 
+-- against R3.8: a frame that is right in the other order is heard in that one
+abbrev pub hearsEither : Format → List ℕ → Heard
+hearsEither format received = cond (right (other format) received) (heard (other format) received) (heard format received)
+
 -- ---- look by another test
 
 -- looked, with these tests in the place of `packetDue` and `acknowledgeDue` (state)
@@ -603,8 +626,9 @@ pub record StartShut : Type 0 where
   pub short-before-range : shortFirst ≢ started
   pub other-state-with-1 : (other : Link) → other ≢ zeros → startLeaving other outOfRange ≢ started
   pub other-state-with-2 : (other : Link) → other ≢ zeros → startLeaving other shortBuffer ≢ started
-  pub acknowledge-as-long : startMore 1 0 ≢ started
-  pub window-of-three : startMore 0 1 ≢ started
+  pub acknowledge-as-long : startMore 1 0 0 ≢ started
+  pub window-of-three : startMore 0 1 0 ≢ started
+  pub order-of-two : startMore 0 0 1 ≢ started
   pub marked : startMarked ≢ started
 
 pub record SubmitShut : Type 0 where
@@ -642,6 +666,7 @@ pub record TakeShut : Type 0 where
   pub len-0 : takenHearing hearsEmpty ≢ frameTaken
   pub over-d : takenHearing hearsLonger ≢ frameTaken
   pub sum-first : takenHearing hearsSumFirst ≢ frameTaken
+  pub either-order : takenHearing hearsEither ≢ frameTaken
   pub size : RefusalShut frameSize
   pub sum : RefusalShut frameSum
   pub code : RefusalShut unusedCode
@@ -702,6 +727,8 @@ pub record ShutOut : Type 0 where
   pub short-before-range : Shows lengthsFirst
   pub lost-before-short : Shows lostFirst
   pub one-count : Shows oneCount
+  pub always-low-first : Shows (alwaysIn lowFirst)
+  pub always-high-first : Shows (alwaysIn highFirst)
   -- one of them
   pub start : StartShut
   pub submit : SubmitShut

@@ -43,6 +43,7 @@ number-alone l slots frame g = record {
   where
     five : 5 ≤ l .settings .format .d
     five = omega (arith, gateOf-facts l (length slots) (length frame) g .entered .formed .settings .d-lo)
+
     taken : (ms : ℕ) (received : List ℕ) → WithNak (heardBy l received) → frameTaken l slots frame ms received ≡ refusedWithNak l slots frame (heardBy l received)
     taken ms received w = frameTaken-open l slots frame ms received g ∙ obeyed-nak l slots frame ms (heardBy l received) w
 

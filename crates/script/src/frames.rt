@@ -9,8 +9,10 @@ use frame::Heard;
 use text::field;
 use text::field::BYTES;
 use text::field::Form;
+use text::field::U8;
 use text::field::U16;
 use text::field::Values;
+use text::field::u8_at;
 use text::field::u16_at;
 use text::heard;
 use text::lay;
@@ -25,12 +27,12 @@ const CHECKSUM: usize = 0;
 const HEAR: usize = 1;
 
 // The fields of every command.
-pub const FIELDS: [u64; 2] = [U16, BYTES];
+pub const FIELDS: [u64; 3] = [U16, BYTES, U8];
 
 fn form_of(word: usize) -> Form {
     match word {
         CHECKSUM => field::fields_from(1, 2, 1),
-        HEAR => field::fields_from(0, 2, 2),
+        HEAR => field::fields_from(0, 3, 2),
         _ => session::no_form(),
     }
 }
@@ -57,6 +59,13 @@ fn print_sum(sum: u16) {
 }
 
 // ---- hear
+
+fn format_of(v: Values) -> Format {
+    Format {
+        d: u16_at(v, 0),
+        order: u8_at(v, 2),
+    }
+}
 
 // How many bytes a data frame has, at least 1; 0 of every other frame.
 fn length_of(h: Heard) -> u64 {
@@ -90,6 +99,6 @@ fn print_heard(h: Heard) {
 pub fn act(word: usize, v: Values, bytes: &[u8]) {
     match word {
         CHECKSUM => print_sum(fcs::checksum(bytes)),
-        _ => print_heard(frame::hear(Format { d: u16_at(v, 0) }, bytes)),
+        _ => print_heard(frame::hear(format_of(v), bytes)),
     }
 }

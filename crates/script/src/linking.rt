@@ -15,11 +15,9 @@ use crate::session::Slots;
 use crate::session::UNSENT;
 use crate::session::UNWRITTEN;
 use base::buffer::part;
-use frame::Format;
 use link::chosen;
 use state::Link;
 use state::Outcome;
-use state::Settings;
 use text::field;
 use text::field::BYTES;
 use text::field::FLAG;
@@ -34,6 +32,7 @@ use text::field::u8_at;
 use text::field::u16_at;
 use text::field::u32_at;
 use text::least;
+use text::settings::settings_of;
 
 // ---- words
 
@@ -60,19 +59,9 @@ const STATE: usize = 7;
 
 // ---- fields
 
-fn settings_of(v: Values) -> Settings {
-    Settings {
-        format: Format { d: u16_at(v, 0) },
-        transtimeout: u16_at(v, 2),
-        acktimeout: u16_at(v, 3),
-        window: u8_at(v, 1),
-        repeats: u8_at(v, 4),
-    }
-}
-
 fn link_of(v: Values) -> Link {
     Link {
-        settings: settings_of(v),
+        settings: settings_of(v, u8_at(v, 18)),
         starts: [u32_at(v, 10), u32_at(v, 11)],
         ackstart: u32_at(v, 15),
         lengths: [u16_at(v, 8), u16_at(v, 9)],
@@ -87,12 +76,13 @@ fn link_of(v: Values) -> Link {
 }
 
 // The fields of every command.
-pub const FIELDS: [u64; 27] = [
-    // start D WIN TRANS ACK REP
+pub const FIELDS: [u64; 29] = [
+    // start D WIN TRANS ACK REP ORDER
     U16,
     U8,
     U16,
     U16,
+    U8,
     U8,
     // of the other calls MS BYTES
     U32,
@@ -117,23 +107,24 @@ pub const FIELDS: [u64; 27] = [
     U32,
     U8,
     U8,
-    // ACKING ACKSTART NAKED LOST
+    // ACKING ACKSTART NAKED LOST ORDER
     FLAG,
     U32,
     FLAG,
     FLAG,
+    U8,
 ];
 
 fn form_of(word: usize) -> Form {
     match word {
-        START => field::fields_from(0, 5, 5),
-        SUBMIT => field::fields_from(5, 7, 2),
-        TAKE => field::fields_from(5, 7, 2),
-        LOOK => field::fields_from(5, 6, 1),
-        ACKNOWLEDGE => field::fields_from(5, 6, 1),
-        RESYNCHRONISE => field::fields_from(5, 6, 1),
-        LEND => field::fields_from(7, 9, 2),
-        STATE => field::fields_from(9, 27, 18),
+        START => field::fields_from(0, 6, 5),
+        SUBMIT => field::fields_from(6, 8, 2),
+        TAKE => field::fields_from(6, 8, 2),
+        LOOK => field::fields_from(6, 7, 1),
+        ACKNOWLEDGE => field::fields_from(6, 7, 1),
+        RESYNCHRONISE => field::fields_from(6, 7, 1),
+        LEND => field::fields_from(8, 10, 2),
+        STATE => field::fields_from(10, 29, 18),
         _ => session::no_form(),
     }
 }
@@ -177,7 +168,7 @@ fn outcome_of(
     bytes: &[u8],
 ) -> Outcome {
     match word {
-        START => link::start(settings_of(v), slots),
+        START => link::start(settings_of(v, u8_at(v, 5)), slots),
         SUBMIT => link::submit(l, slots, frame, u32_at(v, 0), bytes),
         _ => chosen::reading(word, l, slots, frame, u32_at(v, 0), bytes),
     }
@@ -231,7 +222,8 @@ fn numbers_of(o: Outcome) -> [u64; 22] {
 // All that a call leaves.
 fn print_all(o: Outcome, slots: &[u8], frame: &[u8]) {
     let head = b"% % % % % % % % % % % % % % % % % % % % % %";
-    printing::say_both(head, &numbers_of(o), slots, frame, b"\n", 0);
+    let order = o.state.settings.format.order;
+    printing::say_both(head, &numbers_of(o), slots, frame, b" %\n", order as u64);
 }
 
 // The delivered packet is the received frame's bytes from byte 3 on.

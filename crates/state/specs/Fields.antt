@@ -2,7 +2,23 @@
 use Prim.Native.Nat.{ℕ}
 use mathlib.Core.Bool.{Bool}
 use mathlib.Core.List.{List}
+use Rattle.state.specs.declared.Settings.{Settings}
 use Rattle.state.specs.declared.Link.{Link}
+
+abbrev pub withSettings : Link → Settings → Link
+withSettings l settings = record {
+  settings = settings;
+  starts = l .starts;
+  ackstart = l .ackstart;
+  lengths = l .lengths;
+  repeated = l .repeated;
+  next = l .next;
+  expected = l .expected;
+  waiting = l .waiting;
+  acking = l .acking;
+  nakmark = l .nakmark;
+  lost = l .lost;
+}
 
 abbrev pub withStarts : Link → List ℕ → Link
 withStarts l starts = record {

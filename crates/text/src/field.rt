@@ -10,7 +10,7 @@ pub const MOST_BYTES: usize = 8192;
 pub type Bytes = [u8; MOST_BYTES];
 
 // The most fields that a line has.
-pub const FIELDS: usize = 18;
+pub const FIELDS: usize = 19;
 
 // A field's number; 0 of bytes and of a text, and of a field that is absent.
 pub type Values = [u64; FIELDS];

@@ -4,6 +4,7 @@ pub mod heard;
 pub mod input;
 pub mod lay;
 pub mod lines;
+pub mod settings;
 
 ghost use Prim.Native.Nat.{_≤_};
 

@@ -8,10 +8,10 @@ use Rattle.text.proofs.field.read_all.Statement.{statement}
 use Rattle.text.proofs.field.read_all.Tie as tie
 
 abbrev Inv-loop : tie.InvT-loop
-Inv-loop line at largest needed bytes₀ values₀ next₀ count₀ good₀ n₀ bytes values next count good n = (length values ≡ 18) × (length bytes ≡ length bytes₀)
+Inv-loop line at largest needed bytes₀ values₀ next₀ count₀ good₀ n₀ bytes values next count good n = (length values ≡ 19) × (length bytes ≡ length bytes₀)
 
 abbrev μ-loop : tie.MeasureT-loop
-μ-loop line at largest needed bytes₀ values₀ next₀ count₀ good₀ n₀ bytes values next count good n = 18 - n
+μ-loop line at largest needed bytes₀ values₀ next₀ count₀ good₀ n₀ bytes values next count good n = 19 - n
 
 again : tie.Need-loop-again Inv-loop μ-loop
 again c = (search needs, search needs)
