@@ -115,7 +115,7 @@ fn tell_damage(p: Ends, bytes: &[u8]) {
             heard::write_frame(format, bytes);
         }
     }
-    words::say_if(hearing::SUM < hearing::of(format, bytes), words::FORGED);
+    words::say_if(hearing::TURNED < hearing::of(format, bytes), words::FORGED);
     say(words::END_LINE, 0, 0, 0);
 }
 

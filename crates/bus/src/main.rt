@@ -1,8 +1,8 @@
 // Two ends of the link on a bus, the desk and the chip, told as a story: docs/BUS.md.
 mod book;
+mod command;
 mod deeds;
 mod ending;
-mod order;
 mod reason;
 mod story;
 mod task;

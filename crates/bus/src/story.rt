@@ -1,8 +1,8 @@
 // What each command tells, and what it does to the two ends.
 use crate::book::Book;
+use crate::command;
+use crate::command::Command;
 use crate::ending;
-use crate::order;
-use crate::order::Order;
 use crate::reason;
 use crate::task;
 use crate::words;
@@ -34,7 +34,7 @@ fn tell_start(s: Settings, clock: u32, answer: u8) {
         s.transtimeout as u64,
     );
     say(words::REPEATS, s.repeats as u64, s.acktimeout as u64, 0);
-    words::say_if(s.format.order == frame::HIGH_FIRST, words::HIGH_FIRST);
+    words::say_some(words::ORDER, s.format.order as u64);
     reason::tell_ranges(s);
     say(words::END_LINE, 0, 0, 0);
 }
@@ -52,24 +52,24 @@ fn start(p: Ends, v: Values, store: &Store, book: &Book) -> Ends {
 // ---- every command
 
 // What a command tells that moves nothing, and the ends that its moves begin with.
-fn begin(p: Ends, o: Order, number: u64, store: &Store, book: &Book, text: &[u8]) -> Ends {
-    let v = o.values;
-    let verb = o.verb;
+fn begin(p: Ends, c: Command, number: u64, store: &Store, book: &Book, text: &[u8]) -> Ends {
+    let v = c.values;
+    let verb = c.verb;
     match verb {
-        order::PAIR => return start(p, v, store, book),
-        order::END => {
+        command::PAIR => return start(p, v, store, book),
+        command::END => {
             ending::tell(book, p);
             return ends::nobody();
         }
-        order::SHOW => {
+        command::SHOW => {
             ending::show(store, p, DESK, p.desk);
             ending::show(store, p, CHIP, p.chip);
         }
-        order::TELL => {
+        command::TELL => {
             lay::write_printable(text);
             say(words::END_LINE, 0, 0, 0);
         }
-        order::BAD => say(words::BAD, number, 0, 0),
+        command::BAD => say(words::BAD, number, 0, 0),
         _ => {}
     }
     p
@@ -78,10 +78,10 @@ fn begin(p: Ends, o: Order, number: u64, store: &Store, book: &Book, text: &[u8]
 // The ends after the line that the reader is at, if it is at one.
 pub fn obey_line(input: &Input, r: Reader, store: &mut Store, book: &mut Book, p: Ends) -> Ends {
     let mut bytes = [0u8; LONGEST];
-    let o = order::read(lines::line_of(input, r), r, &mut bytes);
-    let text = part(&bytes, 0, o.count);
-    let before = begin(p, o, r.number, store, book, text);
-    let after = task::make_all(before, task::task_of(before, o), store, book, text);
-    task::tell_end(o.verb, before, after);
+    let c = command::read(lines::line_of(input, r), r, &mut bytes);
+    let text = part(&bytes, 0, c.count);
+    let before = begin(p, c, r.number, store, book, text);
+    let after = task::make_all(before, task::task_of(before, c), store, book, text);
+    task::tell_end(c.verb, before, after);
     after
 }

@@ -1,10 +1,10 @@
 // The moves that a command stands for, one after the other.
 use crate::book;
 use crate::book::Book;
+use crate::command;
+use crate::command::Command;
 use crate::deeds;
 use crate::ending;
-use crate::order;
-use crate::order::Order;
 use crate::words;
 use crate::words::say;
 use ends::DESK;
@@ -66,15 +66,15 @@ fn left_of(p: Ends, verb: usize, first: u64, second: u64) -> u64 {
     let e = ends::end_of(p, end);
     let count = times(second);
     match verb {
-        order::SUBMIT => match e.taken < PLACES {
+        command::SUBMIT => match e.taken < PLACES {
             true => 1,
             false => none(p.clock, words::NOTHING, end, words::FULL),
         },
-        order::CARRY => if_there(p, end, count, count),
-        order::LOSE => if_there(p, end, second, 1),
-        order::DAMAGE => if_there(p, end, second, 1),
-        order::ROUND => times(first),
-        order::SETTLE => PROMISED,
+        command::CARRY => if_there(p, end, count, count),
+        command::LOSE => if_there(p, end, second, 1),
+        command::DAMAGE => if_there(p, end, second, 1),
+        command::ROUND => times(first),
+        command::SETTLE => PROMISED,
         _ => 1,
     }
 }
@@ -88,26 +88,26 @@ fn move_of(clock: u32, verb: usize, first: u32, second: u32) -> Move {
     let to = other(end);
     let number = std::num::wrapping_sub_u32(second, 1);
     match verb {
-        order::CARRY => new(verb, to, 0),
-        order::LOSE => new(verb, to, number),
-        order::DAMAGE => new(verb, to, number),
-        order::WAIT => new(PASS, DESK, first),
-        order::CLOCK => new(PASS, DESK, std::num::wrapping_sub_u32(first, clock)),
-        order::SETTLE => new(ROUND, DESK, 0),
+        command::CARRY => new(verb, to, 0),
+        command::LOSE => new(verb, to, number),
+        command::DAMAGE => new(verb, to, number),
+        command::WAIT => new(PASS, DESK, first),
+        command::CLOCK => new(PASS, DESK, std::num::wrapping_sub_u32(first, clock)),
+        command::SETTLE => new(ROUND, DESK, 0),
         _ => new(verb, end, 0),
     }
 }
 
 // What the command has to do.
-pub fn task_of(p: Ends, o: Order) -> Task {
-    let v = o.values;
+pub fn task_of(p: Ends, c: Command) -> Task {
+    let v = c.values;
     let first = u32_at(v, 0);
     let second = u32_at(v, 1);
     Task {
-        first: move_of(p.clock, o.verb, first, second),
+        first: move_of(p.clock, c.verb, first, second),
         last: new(OVER, DESK, 0),
-        left: left_of(p, o.verb, first as u64, second as u64),
-        to_the_end: o.verb == order::SETTLE,
+        left: left_of(p, c.verb, first as u64, second as u64),
+        to_the_end: c.verb == command::SETTLE,
     }
 }
 
@@ -148,7 +148,7 @@ fn place_of(p: Ends) -> usize {
 // Tells what a settle came to, and how many rounds it took.
 pub fn tell_end(verb: usize, before: Ends, p: Ends) {
     match verb {
-        order::SETTLE => say(
+        command::SETTLE => say(
             place_of(p),
             p.clock as u64,
             std::num::wrapping_sub_u64(p.rounds, before.rounds),

@@ -3,7 +3,7 @@
 use crate::End;
 use crate::Ends;
 use crate::hearing;
-use crate::hearing::SUM;
+use crate::hearing::TURNED;
 
 // The ends have not started.
 pub const UNSET: usize = 0;
@@ -44,7 +44,7 @@ pub fn after(p: Ends, is_fresh: bool) -> Ends {
 // The phase after a frame, if it is there, has become these bytes.
 pub fn damaged_phase(p: Ends, is_there: bool, bytes: &[u8]) -> usize {
     let heard = hearing::of(p.desk.link.settings.format, bytes);
-    match is_there & (SUM < heard) & (p.phase < FORGED) {
+    match is_there & (TURNED < heard) & (p.phase < FORGED) {
         true => FORGED,
         false => p.phase,
     }

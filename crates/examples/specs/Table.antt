@@ -63,7 +63,7 @@ told l answer sent delivered = record { state = l; sent = sent; delivered = deli
 abbrev pub data0 : (ℕ → ℕ → List ℕ) → List ℕ
 data0 fcs = 0x03 ∷ 0x00 ∷ 0x01 ∷ 0x00 ∷ fcs 0x15 0x3C
 
--- an order, and how the bytes of FCS stand in it
+-- R10.1 to R10.12, and R10.14: of an order, and how the bytes of FCS stand in it
 pub record Table (order : ℕ) (fcs : ℕ → ℕ → List ℕ) : Type 0 where
   -- R10.1
   pub example1 : checksumOf (0x31 ∷ 0x32 ∷ 0x33 ∷ 0x34 ∷ 0x35 ∷ 0x36 ∷ 0x37 ∷ 0x38 ∷ 0x39 ∷ []) ≡ 0x2189

@@ -12,7 +12,7 @@ use Rattle.frame.specs.Bytes.{lowFirst, highFirst, byOrder, frameOf, res
 use Rattle.frame.specs.Steps.{heard}
 use Rattle.frame.specs.Promises.{right}
 
--- the same format with the other order
+-- R3.8: the same format with the other order
 abbrev pub other : Format → Format
 other format = record { d = format .d; order = byOrder format highFirst lowFirst }
 
@@ -24,7 +24,7 @@ turned frame = let at : ℕ = length frame - 2 in take at frame ++ reverse (drop
 abbrev pub FrameTurned : Type 0
 FrameTurned = (format : Format) (fctr : ℕ) (packet : List ℕ) → frameOf (other format) fctr packet ≡ turned (frameOf format fctr packet)
 
--- .. and the turned frame is heard there as the frame is here, whatever was received.
+-- .. and (R3.8, too) the turned frame is heard there as the frame is here, whatever was received.
 abbrev pub HeardTurned : Type 0
 HeardTurned = (format : Format) (frame : List ℕ) → heard (other format) (turned frame) ≡ heard format frame
 
@@ -34,6 +34,6 @@ OtherOrder =
     (format : Format) (frame : List ℕ) → 5 ≤ length frame → length frame ≤ format .d → right (other format) frame ≡ true
     → getD frame (length frame - 2) 0 ≢ getD frame (length frame - 1) 0 → heard format frame ≡ Sum
 
--- .. and so is the other order's reset frame.
+-- .. and so is the other order's reset frame, a reset though it is in its own.
 abbrev pub ResetOther : Type 0
 ResetOther = (format : Format) → 5 ≤ format .d → heard format (resetFrame (other format)) ≡ Sum

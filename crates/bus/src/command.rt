@@ -48,7 +48,7 @@ pub const BAD: usize = 15;
 pub const SILENT: usize = 16;
 
 // values: the numbers of its fields. count: how many bytes it has.
-pub struct Order {
+pub struct Command {
     pub values: Values,
     pub count: usize,
     pub verb: usize,
@@ -90,10 +90,10 @@ fn form_of(verb: usize) -> Form {
     }
 }
 
-fn order_of(verb: usize, f: Fields) -> Order {
+fn command_of(verb: usize, f: Fields) -> Command {
     let values = f.values;
     let good = f.good;
-    Order {
+    Command {
         values,
         count: f.count,
         verb: match good {
@@ -103,20 +103,20 @@ fn order_of(verb: usize, f: Fields) -> Order {
     }
 }
 
-fn read_line(line: &[u8], bytes: &mut [u8]) -> Order {
+fn read_line(line: &[u8], bytes: &mut [u8]) -> Command {
     let at = field::word_end(line);
     let verb = field::place_of(
         part(line, 0, at),
         b"submit carry look acknowledge resynchronise lose damage wait round clock settle pair end show tell",
     );
-    order_of(
+    command_of(
         verb,
         field::read_form(line, at, &FIELDS, form_of(verb), bytes),
     )
 }
 
-fn none(verb: usize) -> Order {
-    Order {
+fn none(verb: usize) -> Command {
+    Command {
         values: [0; field::FIELDS],
         count: 0,
         verb,
@@ -124,7 +124,7 @@ fn none(verb: usize) -> Order {
 }
 
 // The command of the line that the reader is at, if it is at one; its bytes are laid in `bytes`.
-pub fn read(line: &[u8], r: Reader, bytes: &mut [u8]) -> Order {
+pub fn read(line: &[u8], r: Reader, bytes: &mut [u8]) -> Command {
     match lines::kind(line, r) {
         lines::LINE => read_line(line, bytes),
         lines::LONG => none(BAD),
