@@ -2,6 +2,7 @@
 use base::buffer::part;
 use frame::Format;
 use state::Link;
+use state::Outcome;
 use state::Settings;
 ghost use mathlib.Core.Path.{_≡_};
 ghost use Rattle.fcs.specs.Checksum.{checksumOf};
@@ -26,14 +27,22 @@ fn settings(order: u8) -> Settings {
     }
 }
 
-// The chip takes the desk's frame, and acknowledges it at once.
-fn answer(chip: Link, slots: &[u8], back: &mut [u8], data: &[u8]) -> u16 {
+// The desk begins, and sends the packet.
+fn submitted(fresh: Link, slots: &mut [u8], frame: &mut [u8], packet: &[u8]) -> Outcome {
+    let begun = link::resynchronise(fresh, slots, frame, 0);
+    link::submit(begun.state, slots, frame, 1, packet)
+}
+
+// The chip takes the desk's frame, of so many bytes, and acknowledges it at once.
+fn acknowledged(chip: Link, sent: u16, slots: &[u8], frame: &[u8], back: &mut [u8]) -> u16 {
+    let data = part(frame, 0, sent as usize);
     let taken = link::take(chip, slots, back, 1, data);
     link::acknowledge(taken.state, slots, back, 1).sent
 }
 
 // How many packets wait at the desk once it has taken the acknowledgement and looked at its clock.
-fn left_over(desk: Link, slots: &[u8], frame: &mut [u8], ack: &[u8]) -> u8 {
+fn left_over(desk: Link, sent: u16, slots: &[u8], frame: &mut [u8], back: &[u8]) -> u8 {
+    let ack = part(back, 0, sent as usize);
     let taken = link::take(desk, slots, frame, 2, ack);
     link::look(taken.state, slots, frame, 3)
         .outcome
@@ -41,7 +50,7 @@ fn left_over(desk: Link, slots: &[u8], frame: &mut [u8], ack: &[u8]) -> u8 {
         .waiting
 }
 
-// Both ends begin, and then a packet. 0 where all is as it should be. The chip sends no data here, so both are lent the same slots.
+// 0 where the packet was acknowledged (or an order that is none was refused). The chip sends no data, so both ends are lent the same slots.
 #[no_mangle]
 pub extern "C" fn bench_exchange(
     order: u8,
@@ -51,8 +60,7 @@ pub extern "C" fn bench_exchange(
     back: &mut [u8],
 ) -> u8 {
     let fresh = link::start(settings(order), slots).state;
-    let begun = link::resynchronise(fresh, slots, frame, 0);
-    let desk = link::submit(begun.state, slots, frame, 1, packet);
-    let sent = answer(fresh, slots, back, part(frame, 0, desk.sent as usize));
-    left_over(desk.state, slots, frame, part(back, 0, sent as usize))
+    let desk = submitted(fresh, slots, frame, packet);
+    let sent = acknowledged(fresh, desk.sent, slots, frame, back);
+    left_over(desk.state, sent, slots, frame, back)
 }

@@ -18,12 +18,18 @@ use text::field::u8_at;
 use text::field::u32_at;
 use text::input::Input;
 use text::lay;
+use text::least;
 use text::lines;
 use text::lines::LONGEST;
 use text::lines::Reader;
 use text::settings::settings_of;
 
 // ---- a pair
+
+fn tell_order(order: u8) {
+    let place = least(order as usize, words::NO_ORDER);
+    say(words::FCS + place, 0, 0, 0);
+}
 
 fn tell_start(s: Settings, clock: u32, answer: u8) {
     say(words::CLOCK, clock as u64, 0, 0);
@@ -34,7 +40,7 @@ fn tell_start(s: Settings, clock: u32, answer: u8) {
         s.transtimeout as u64,
     );
     say(words::REPEATS, s.repeats as u64, s.acktimeout as u64, 0);
-    words::say_some(words::ORDER, s.format.order as u64);
+    tell_order(s.format.order);
     reason::tell_ranges(s);
     say(words::END_LINE, 0, 0, 0);
 }

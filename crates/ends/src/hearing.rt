@@ -2,7 +2,8 @@
 use frame::Format;
 use frame::Heard;
 
-// Step 1 refuses it: by its size; by its checksum, which may be right in the other order of FCS. What has a greater number has a right checksum.
+// Step 1 refuses it: by its size; by its checksum; by one that is right in the other order of FCS. What has a greater number has a right
+// checksum.
 pub const SIZE: usize = 0;
 
 pub const SUM: usize = 1;

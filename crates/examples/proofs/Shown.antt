@@ -6,19 +6,18 @@ use Prim.Native.Nat.{ℕ, _/_, _%_, _≤_}
 use native.Mathlib.Omega.{arith}
 use lib.ListN.{length}
 use Rattle.base.specs.Answer.{done, unexpected, frameSum, frameLength}
-use Rattle.base.specs.Buffer.{put}
 use Rattle.fcs.specs.Checksum.{checksumOf}
 use Rattle.frame.specs.declared.Format.{Format}
 use Rattle.frame.specs.declared.Heard.{Heard}
 use Rattle.frame.specs.declared.Heard.the-variants.{Sum, Length, Data}
 use Rattle.frame.specs.Bytes.{fcsBytes, sealed, frameOf, dataFrame, ackFrame, nakFrame, resetFrame}
-use Rattle.frame.specs.Steps.{heard, judged, packetIn}
-use Rattle.frame.specs.Orders.{other}
-use Rattle.frame.proofs.Hearing.{heard-framed, data-heard, resetFrame-framed}
-use Rattle.frame.proofs.Orders.{byOrder-other, zeros-framed, reset-other}
+use Rattle.frame.specs.Steps.{heard, packetIn}
+use Rattle.frame.specs.Orders.{inOtherOrder}
+use Rattle.frame.proofs.Hearing.{data-heard, resetFrame-framed}
+use Rattle.frame.proofs.Orders.{byOrder-other, zeros-framed, zeros-heard, reset-other}
 use Rattle.state.specs.declared.Link.{Link}
 use Rattle.state.specs.declared.Outcome.{Outcome}
-use Rattle.state.specs.Fields.{withAcking, withNakmark}
+use Rattle.state.specs.Fields.{withAcking}
 use Rattle.state.specs.State.{freshOf}
 use Rattle.state.specs.Gate.{After, after}
 use Rattle.state.specs.Formed.{Formed, Sound}
@@ -26,7 +25,7 @@ use Rattle.state.proofs.Facts.{inRange-facts, wellFormed-facts}
 use Rattle.state.proofs.Keeps.{fresh-sound, changed-sound, sound-open}
 use Rattle.receive.specs.Take.{obeyed, frameTaken}
 use Rattle.receive.proofs.Facts.{frameTaken-open}
-use Rattle.examples.specs.Table.{asGiven, turnedRound, End, taken, delivered0, told, data0, Table, Examples}
+use Rattle.examples.specs.Table.{asGiven, turnedRound, formatIn, End, taken, delivered0, told, sending, refusing, data0, Table, Examples}
 
 -- ---- an end of the table
 
@@ -81,20 +80,16 @@ module _ (order : ℕ) (fcs : ℕ → ℕ → List ℕ) (stand : (format : Forma
   unfolding frameOf checksumOf
   data0-framed format same = laid format same (0x03 ∷ 0x00 ∷ 0x01 ∷ 0x00 ∷ [])
 
-  zeros-heard : (format : Format) → 5 ≤ format .d → heard format (0x00 ∷ 0x00 ∷ 0x00 ∷ 0x00 ∷ 0x00 ∷ []) ≡ Length
-  unfolding judged
-  zeros-heard format h = ap (heard format) (zeros-framed format) ∙ heard-framed format 0x00 [] h
-
   data0-heard : (format : Format) → format .order ≡ order → 6 ≤ format .d → heard format (data0 fcs) ≡ Data 0 false 3 1
   data0-heard format same h =
       ap (heard format) (sym (data0-framed format same)) ∙ data-heard format 0 3 (0x00 ∷ []) (omega arith) (omega arith) (omega arith) h
 
   -- in the other order the sum's two bytes change places
-  reset-turned : (format : Format) → format .order ≡ order → 0xC0 ∷ 0x00 ∷ 0x00 ∷ fcs 0x0A 0x9A ≡ resetFrame (other format)
+  reset-turned : (format : Format) → format .order ≡ order → 0xC0 ∷ 0x00 ∷ 0x00 ∷ fcs 0x0A 0x9A ≡ resetFrame (inOtherOrder format)
   unfolding frameOf sealed checksumOf
   reset-turned format same =
       ap (λ (bytes : List ℕ). 0xC0 ∷ 0x00 ∷ 0x00 ∷ bytes) (sym (stand format same 0x9A0A))
-      ∙ sym (rw (resetFrame-framed (other format), byOrder-other {A = ℕ} format 0x9A 0x0A, byOrder-other {A = ℕ} format 0x0A 0x9A))
+      ∙ sym (rw (resetFrame-framed (inOtherOrder format), byOrder-other {A = ℕ} format 0x9A 0x0A, byOrder-other {A = ℕ} format 0x0A 0x9A))
 
   reset-refused : (format : Format) → format .order ≡ order → 5 ≤ format .d → heard format (0xC0 ∷ 0x00 ∷ 0x00 ∷ fcs 0x0A 0x9A) ≡ Sum
   reset-refused format same h = ap (heard format) (reset-turned format same) ∙ reset-other format h
@@ -105,15 +100,13 @@ module _ (order : ℕ) (fcs : ℕ → ℕ → List ℕ) (stand : (format : Forma
 
   -- a fresh end sends its NAK
   refused : (e : End order) (received : List ℕ) (h : Heard) (answer : ℕ) → heard (e .settings .format) received ≡ h
-      → obeyed (freshOf (e .settings)) (e .slots) (e .frame) (e .ms) h ≡ after (told (withNakmark (freshOf (e .settings)) true) answer 5 0) (e .slots) (put (e .frame) 0 (nakFrame (e .settings .format) 0))
-      → taken e received ≡ after (told (withNakmark (freshOf (e .settings)) true) answer 5 0) (e .slots) (put (e .frame) 0 (0xA0 ∷ 0x00 ∷ 0x00 ∷ fcs 0xD7 0x0F))
-  refused e received h answer same sent =
-      answered e received h same
-      ∙ sent
-      ∙ ap (λ (bytes : List ℕ). after (told (withNakmark (freshOf (e .settings)) true) answer 5 0) (e .slots) (put (e .frame) 0 bytes)) (nak0 (e .settings .format) (e .ordered))
+      → obeyed (freshOf (e .settings)) (e .slots) (e .frame) (e .ms) h ≡ refusing e answer (nakFrame (e .settings .format) 0)
+      → taken e received ≡ refusing e answer (0xA0 ∷ 0x00 ∷ 0x00 ∷ fcs 0xD7 0x0F)
+  refused e received h answer same sent = answered e received h same ∙ sent ∙ ap (refusing e answer) (nak0 (e .settings .format) (e .ordered))
 
-  second : (e : End order) (later : ℕ) → frameTaken (delivered0 e) (e .slots) (e .frame) later (data0 fcs)
-      ≡ after (told (withAcking (delivered0 e) false) unexpected 5 0) (e .slots) (put (e .frame) 0 (ackFrame (e .settings .format) 0))
+  second : (e : End order) (later : ℕ)
+      → frameTaken (delivered0 e) (e .slots) (e .frame) later (data0 fcs)
+      ≡ sending e (withAcking (delivered0 e) false) unexpected (ackFrame (e .settings .format) 0)
   unfolding freshOf obeyed frameOf sealed
   second e later =
       opened e (delivered0 e) later (data0 fcs) (after-example8 e) refl refl
@@ -123,21 +116,21 @@ module _ (order : ℕ) (fcs : ℕ → ℕ → List ℕ) (stand : (format : Forma
   unfolding checksumOf frameOf sealed freshOf obeyed
   table = record {
     example1 = refl;
-    example2 = λ d. ack0 (record { d = d; order = order }) refl;
-    example3 = λ d. laid (record { d = d; order = order }) refl (0x81 ∷ 0x00 ∷ 0x00 ∷ []);
-    example4 = λ d. nak0 (record { d = d; order = order }) refl;
-    example5 = λ d. laid (record { d = d; order = order }) refl (0xC0 ∷ 0x00 ∷ 0x00 ∷ []);
-    example5-reset = λ d. resetFrame-framed (record { d = d; order = order }) ∙ laid (record { d = d; order = order }) refl (0xC0 ∷ 0x00 ∷ 0x00 ∷ []);
-    example6 = λ d. data0-framed (record { d = d; order = order }) refl;
-    example7-sum = λ d. sym (zeros-framed (record { d = d; order = order }));
-    example7-step4 = λ d. zeros-heard (record { d = d; order = order });
+    example2 = λ d. ack0 (formatIn order d) refl;
+    example3 = λ d. laid (formatIn order d) refl (0x81 ∷ 0x00 ∷ 0x00 ∷ []);
+    example4 = λ d. nak0 (formatIn order d) refl;
+    example5 = λ d. laid (formatIn order d) refl (0xC0 ∷ 0x00 ∷ 0x00 ∷ []);
+    example5-reset = λ d. resetFrame-framed (formatIn order d) ∙ laid (formatIn order d) refl (0xC0 ∷ 0x00 ∷ 0x00 ∷ []);
+    example6 = λ d. data0-framed (formatIn order d) refl;
+    example7-sum = λ d. sym (zeros-framed (formatIn order d));
+    example7-step4 = λ d. zeros-heard (formatIn order d);
     example7 = λ e. refused e (0x00 ∷ 0x00 ∷ 0x00 ∷ 0x00 ∷ 0x00 ∷ []) Length frameLength (zeros-heard (e .settings .format) (omega (arith, six-fit e))) refl;
     example8 = delivered;
     example8-packet = λ e. ap (λ (a : After Outcome). packetIn (data0 fcs) (a .told .delivered)) (delivered e);
     example9 = λ e later.
         ap (λ (a : After Outcome). frameTaken (a .told .state) (a .slots) (a .frame) later (data0 fcs)) (delivered e)
         ∙ second e later
-        ∙ ap (λ (bytes : List ℕ). after (told (withAcking (delivered0 e) false) unexpected 5 0) (e .slots) (put (e .frame) 0 bytes)) (ack0 (e .settings .format) (e .ordered));
+        ∙ ap (sending e (withAcking (delivered0 e) false) unexpected) (ack0 (e .settings .format) (e .ordered));
     example10 = λ a b c d e f g h i j. refl;
     example11 = λ a b c d e f g h i j k. refl;
     example12 = refl;

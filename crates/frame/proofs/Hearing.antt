@@ -21,7 +21,7 @@ use Rattle.frame.proofs.Writing.{sealed-length, frameOf-length}
 
 -- ---- step 1
 
-two : (x : List ℕ) (at : ℕ) → at + 2 ≤ length x → take 2 (drop at x) ≡ getD x at 0 ∷ getD x (at + 1) 0 ∷ []
+pub two : (x : List ℕ) (at : ℕ) → at + 2 ≤ length x → take 2 (drop at x) ≡ getD x at 0 ∷ getD x (at + 1) 0 ∷ []
 two x at h = rw (drop-cons x at 0 (omega arith), drop-cons x (suc at) 0 (omega arith), add-one)
 
 -- two bytes compared one by one
@@ -34,6 +34,7 @@ sameBytes-refl : (s : List ℕ) → sameBytes s s ≡ true
 sameBytes-refl [] = refl
 sameBytes-refl (a ∷ s) = rw (eq-eqb a a refl) (sameBytes-refl s)
 
+-- by search, so that a hearing by which it is not so is refused for that (must-fail/heard_turned_by_rule)
 pub fcsAt-sealed : (format : Format) (covered : List ℕ) → fcsAt format (length covered) (sealed format covered) ≡ true
 unfolding fcsAt sealed
 fcsAt-sealed format covered =

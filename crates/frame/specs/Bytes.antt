@@ -21,7 +21,7 @@ abbrev pub highFirst : ℕ
 highFirst = 1
 
 -- R3.8: of two things the one for the order that the format has. A number that is neither order no end ever has (R2.1); here it is read as
--- low first (DECISIONS D109).
+-- low first (DECISIONS D110).
 abbrev pub byOrder : {A : Type 0} → Format → A → A → A
 byOrder format low high = cond (eqb (format .order) highFirst) high low
 

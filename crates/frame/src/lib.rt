@@ -7,7 +7,7 @@ ghost use Prim.Native.Nat.{_+_, _≤_, _<_};
 ghost use lib.ListN.{length, take};
 ghost use Rattle.base.specs.Buffer.{put};
 ghost use Rattle.frame.specs.Bytes.{lenBytes, byOrder, fcsBytes, sealed, dataFrame, ackFrame, nakFrame, frameOf, resetFrame, Written};
-ghost use Rattle.frame.specs.Orders.{other};
+ghost use Rattle.frame.specs.Orders.{inOtherOrder};
 ghost use Rattle.frame.specs.Steps.{lenOf, fcsAt, used, accepted, judged, heard, refusalOf};
 
 // What the bytes of a frame depend on beside what it says, for the writer as for the hearer: D, and the order of the FCS bytes (R3.8).
@@ -51,7 +51,7 @@ fn by_order(format: Format, low: u8, high: u8) -> u8
 
 // The same format with the other order.
 pub fn other_order(format: Format) -> Format
-    ensures { λ r. ⌜ r ≡ other format ⌝ }
+    ensures { λ r. ⌜ r ≡ inOtherOrder format ⌝ }
 {
     Format {
         d: format.d,

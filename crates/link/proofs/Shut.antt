@@ -308,6 +308,8 @@ shut-out = record {
     reset-answered = λ same. eqb-false 5 0 refl (ap (λ (f : Call). f one slots buffer 0 (resetFrame format) .told .sent) same);
     reset-no-drops = λ same. eqb-false 0 1 refl (ap (λ (f : Call). f one slots buffer 0 (resetFrame format) .told .dropped) same);
     reset-mark-left = λ same. eqb-false 1 0 refl (ap (λ (f : Call). bit (f (withNakmark one true) slots buffer 0 (resetFrame format) .told .state .nakmark)) same);
+    reset-order-lost = λ same.
+        eqb-false 0 1 refl (ap (λ (f : Call). f high slots buffer 0 (resetFrame (high .settings .format)) .told .state .settings .format .order) same);
     repeat-not-counted = λ same. eqb-false 0 1 refl (ap (λ (f : Call). getD (f one slots buffer 0 (nakFrame format 0) .told .state .repeated) 0 0) same);
     other-slot = λ same. eqb-false 2 1 refl (ap (λ (f : Call). getD (f one filled buffer 0 (nakFrame format 0) .frame) 3 0) same);
   };
@@ -346,4 +348,5 @@ shut-out = record {
   resynchronise-when-lost = λ same. eqb-false 3 0 refl (ap (λ (f : Bare). f (withLost one true) slots buffer .told .answer) same);
   resynchronise-no-drops = λ same. eqb-false 0 1 refl (ap (λ (f : Bare). f one slots buffer .told .dropped) same);
   resynchronise-mark-left = λ same. eqb-false 1 0 refl (ap (λ (f : Bare). bit (f (withNakmark one true) slots buffer .told .state .nakmark)) same);
+  resynchronise-order-lost = λ same. eqb-false 0 1 refl (ap (λ (f : Bare). f high slots buffer .told .state .settings .format .order) same);
 }

@@ -19,8 +19,7 @@ use Rattle.frame.specs.declared.Heard.{Heard}
 use Rattle.frame.specs.declared.Heard.the-variants.{Sum, ControlSize, Data}
 use Rattle.frame.specs.Bytes.{lowFirst, highFirst, fcsBytes, sealed, frameOf, dataFrame, nakFrame, resetFrame}
 use Rattle.frame.specs.Steps.{fctrOf, sameBytes, fcsAt, isControl, isNak, numberOf, acknowledgedOf, heard}
-use Rattle.frame.specs.Promises.{right}
-use Rattle.frame.specs.Orders.{other}
+use Rattle.frame.specs.Orders.{inOtherOrder}
 use Rattle.state.specs.declared.Settings.{Settings}
 use Rattle.state.specs.declared.Link.{Link}
 use Rattle.state.specs.declared.Outcome.{Outcome}
@@ -155,18 +154,24 @@ stay = instead (answers done) (λ l slots frame right. leaving l right)
 abbrev pub inOrder : Format → ℕ → Format
 inOrder format order = record { d = format .d; order = order }
 
--- against R3.8: every frame is heard and sent in this order, whichever is set; what is set stays
-abbrev pub alwaysIn : ℕ → Change
-alwaysIn order call l slots frame =
+-- a state with this order in its settings
+abbrev pub withOrder : Link → ℕ → Link
+withOrder l order =
     let settings : Settings = l .settings in
-    let right : After Outcome = call (withSettings l (record {
+    withSettings l (record {
       format = inOrder (settings .format) order;
       transtimeout = settings .transtimeout;
       acktimeout = settings .acktimeout;
       window = settings .window;
       repeats = settings .repeats;
-    })) slots frame in
-    leaving (withSettings (right .told .state) settings) right
+    })
+
+-- against R3.8: every frame is heard and sent in this order, whichever of the two is set; what is set stays, and a number that is neither is
+-- refused
+abbrev pub alwaysIn : ℕ → Change
+alwaysIn order call l slots frame =
+    let right : After Outcome = call (withOrder l order) slots frame in
+    cond (leb (l .settings .format .order) highFirst) (leaving (withOrder (right .told .state) (l .settings .format .order)) right) (call l slots frame)
 
 -- R13.3, making up: so many more bytes delivered, or so many more packets dropped
 abbrev pub counting : ℕ → ℕ → Outcome → Outcome
@@ -475,6 +480,10 @@ tellsNoDrops = instead (answers done) (λ l slots frame right. telling (right .t
 abbrev pub leavesMark : Change
 leavesMark = instead (answers done) (λ l slots frame right. leaving (withNakmark (right .told .state) (l .nakmark)) right)
 
+-- against R5.2: the settings are kept but for the order, which is low byte first then
+abbrev pub losesOrder : Change
+losesOrder = instead (answers done) (λ l slots frame right. leaving (withOrder (right .told .state) lowFirst) right)
+
 -- R11.5, against R4.7: what would be delivered were one more packet there already is delivered
 abbrev pub overGap : Call
 overGap l slots frame ms received =
@@ -524,7 +533,9 @@ hearsLonger format = heard (record { d = format .d + 1; order = format .order })
 
 -- against R3.8: a frame that is right in the other order is heard in that one
 abbrev pub hearsEither : Format → List ℕ → Heard
-hearsEither format received = cond (right (other format) received) (heard (other format) received) (heard format received)
+hearsEither format received =
+    let second : Format = inOtherOrder format in
+    cond (fcsAt second (length received - 2) received) (heard second received) (heard format received)
 
 -- ---- look by another test
 
@@ -681,6 +692,7 @@ pub record TakeShut : Type 0 where
   pub reset-answered : onReset tellsFrame ≢ frameTaken
   pub reset-no-drops : onReset tellsNoDrops ≢ frameTaken
   pub reset-mark-left : onReset leavesMark ≢ frameTaken
+  pub reset-order-lost : onReset losesOrder ≢ frameTaken
   pub repeat-not-counted : takeBut notCounted ≢ frameTaken
   pub other-slot : takeBut otherSlot ≢ frameTaken
 
@@ -738,3 +750,4 @@ pub record ShutOut : Type 0 where
   pub resynchronise-when-lost : staysLost ≢ resynchronised
   pub resynchronise-no-drops : tellsNoDrops resynchronised ≢ resynchronised
   pub resynchronise-mark-left : leavesMark resynchronised ≢ resynchronised
+  pub resynchronise-order-lost : losesOrder resynchronised ≢ resynchronised

@@ -13,7 +13,7 @@ use Rattle.frame.specs.declared.Heard.the-variants.{Size, Sum, Code, ControlSiz
 use Rattle.frame.specs.Steps.{heard, judged, refusalOf}
 use Rattle.frame.proofs.Hearing.{heard-framed}
 use Rattle.frame.proofs.Reasons.{refused-holds, number-tells}
-use Rattle.frame.proofs.Orders.{zeros-framed, reset-other}
+use Rattle.frame.proofs.Orders.{reset-other, zeros-heard}
 use Rattle.state.specs.declared.Link.{Link}
 use Rattle.state.specs.declared.Outcome.{Outcome}
 use Rattle.state.specs.Gate.{After, gateOf}
@@ -38,7 +38,7 @@ number-alone l slots frame g = record {
   size = refl;
   sum = reset-other (l .settings .format) five;
   code = heard-framed (l .settings .format) 0x10 [] five;
-  len = ap (heardBy l) (zeros-framed (l .settings .format)) ∙ heard-framed (l .settings .format) 0x00 [] five;
+  len = zeros-heard (l .settings .format) five;
 }
   where
     five : 5 ≤ l .settings .format .d

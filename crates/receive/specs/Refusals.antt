@@ -11,7 +11,7 @@ use Rattle.frame.specs.declared.Heard.{Heard}
 use Rattle.frame.specs.declared.Heard.the-variants.{Size, Sum, Code, Length}
 use Rattle.frame.specs.Bytes.{frameOf, resetFrame}
 use Rattle.frame.specs.Steps.{heard, refusalOf}
-use Rattle.frame.specs.Orders.{other}
+use Rattle.frame.specs.Orders.{inOtherOrder}
 use Rattle.state.specs.declared.Link.{Link}
 use Rattle.state.specs.declared.Outcome.{Outcome}
 use Rattle.state.specs.Gate.{After, after, refused, gateOf}
@@ -45,7 +45,7 @@ pub record Alike (l : Link) (slots frame : List ℕ) : Type 0 where
       → frameTaken l slots frame ms received ≡ refused l (refusalOf (heardBy l received)) slots frame
   -- .. and such frames there are, of each kind: this end hears them so. A reset frame in the other order of FCS is one of them (R3.8).
   pub size : heardBy l [] ≡ Size
-  pub sum : heardBy l (resetFrame (other (l .settings .format))) ≡ Sum
+  pub sum : heardBy l (resetFrame (inOtherOrder (l .settings .format))) ≡ Sum
   pub code : heardBy l (frameOf (l .settings .format) 0x10 []) ≡ Code
   pub len : heardBy l (0x00 ∷ 0x00 ∷ 0x00 ∷ 0x00 ∷ 0x00 ∷ []) ≡ Length
 
