@@ -8,7 +8,7 @@ pub fn copy_at(buffer: &mut [u8], at: usize, source: &[u8])
     ensures { buffer.new ≡ put buffer.old at source.now }
 {
     let end = at + source.len();
-    bytes::copy(source, &mut buffer[at..end]);
+    buffer[at..end].copy_from_slice(source);
 }
 
 // So many bytes of a buffer from an index on; none where it has not so many.

@@ -1,4 +1,5 @@
 // What bench/ measures, for a program in C to call. Not part of the product.
+#![tactic(auto)]
 ghost use Rattle.std.specs.Prelude.{◌≡◌};
 ghost use Rattle.fcs.specs.Checksum.{checksum_of};
 

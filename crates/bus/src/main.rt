@@ -1,4 +1,5 @@
 // Two ends of the link on a bus, the desk and the chip, told as a story: docs/BUS.md.
+#![tactic(auto)]
 mod book;
 mod command;
 mod deeds;

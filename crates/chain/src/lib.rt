@@ -1,4 +1,5 @@
 // Chaining: cut a message into packets, join packets to a message. Only this crate knows PCTR.
+#![tactic(auto)]
 ghost use Rattle.std.specs.Prelude.{◌≡◌, ◌∷◌, ◌+◌, ◌*◌, ◌≤◌, ◌<◌, length};
 ghost use Rattle.base.specs.Buffer.{put};
 ghost use Rattle.base.specs.Range.{least_of};

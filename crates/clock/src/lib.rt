@@ -1,4 +1,5 @@
 // look and acknowledge: what the time does (R6.2 to R6.4).
+#![tactic(auto)]
 ghost use Rattle.std.specs.Prelude.{◌≡◌, ◌≤◌, ◌<◌, length};
 ghost use Rattle.base.specs.Answer.{done};
 ghost use Rattle.state.specs.State.{sent_before};

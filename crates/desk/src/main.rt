@@ -1,4 +1,5 @@
 // A loan goes from a desk to its chip, both of them in one program. What to copy is in turn.rt.
+#![tactic(auto)]
 mod turn;
 
 use base::buffer::part;

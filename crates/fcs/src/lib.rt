@@ -1,4 +1,6 @@
 // The frame check sequence: R3.3, R3.4. Only this crate knows the polynomial, and only its own functions reach the table.
+#![tactic(auto)]
+
 mod table;
 
 ghost use Rattle.std.specs.Prelude.{◌≡◌};

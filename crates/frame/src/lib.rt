@@ -1,4 +1,5 @@
 // A frame's bytes, heard and written: R3, R4.1 to R4.4. Only this crate knows the place of a byte and the order of FCS.
+#![tactic(auto)]
 ghost use Rattle.std.specs.Prelude.{◌≡◌, [], ◌∷◌, ◌++◌, ◌+◌, ◌≤◌, ◌<◌, length, take};
 ghost use Rattle.base.specs.Buffer.{put};
 ghost use Rattle.frame.specs.Bytes.{len_bytes, by_order, fcs_bytes, sealed, data_frame, ack_frame, nak_frame, frame_of, reset_frame, Written};

@@ -1,4 +1,5 @@
 // A script of calls on one end of the link and on one joining (docs/RIG.md), line by line.
+#![tactic(auto)]
 mod chaining;
 mod frames;
 mod linking;

@@ -1,4 +1,5 @@
 // What an end sends: submit, and the one maker of a repeat, of a control ACK and of a control NAK.
+#![tactic(auto)]
 ghost use Rattle.std.specs.Prelude.{◌≡◌, ◌+◌, ◌≤◌, ◌<◌, length};
 ghost use Rattle.base.specs.Buffer.{put};
 ghost use Rattle.state.specs.Bounds.{limit_of};

@@ -1,5 +1,6 @@
 // What an end keeps (R2, R5): its settings and its state, when they are well formed, the gate 1, 2, 3 (R9.1), fresh, timers (R6); start and
 // resynchronise.
+#![tactic(auto)]
 ghost use Rattle.std.specs.Prelude.{◌≡◌, ◌<◌, ◌≤◌, length};
 ghost use Rattle.state.specs.Bounds.{limit_of, in_range, slots_need};
 ghost use Rattle.state.specs.State.{last_correct, behind, sent_before, slot_of, start_of, length_ok, numbers_ok, well_formed, fresh_of, renewed};

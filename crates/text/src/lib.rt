@@ -1,4 +1,5 @@
 // What the programs share: standard input and its lines, a line's fields, and text for standard output.
+#![tactic(auto)]
 pub mod field;
 pub mod heard;
 pub mod input;

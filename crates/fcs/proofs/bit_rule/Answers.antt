@@ -1,14 +1,12 @@
 -- `fcs::bit_rule` meets its contract. The invariant: the bits that are left, from where the loop stands, give the whole step.
--- Assumes nothing.
 use mathlib.Core.Path.{◌≡◌, refl, sym, ◌∙◌}
-use mathlib.Core.Logic.{⊎_elim}
-use Prim.Native.Nat.{ℕ, suc, ◌≤◌, ◌<◌, ◌+◌, ◌-◌, ◌/◌, ◌%◌}
+use Prim.Native.Nat.{ℕ, suc, ◌<◌, ◌+◌, ◌-◌, ◌/◌, ◌%◌}
 use borrow.Author.Tests.{eq-eqb, ne_eqb}
 use lib.Bits.{bit_and, bit_xor, and_mask}
 use native.Mathlib.Omega.{arith}
 use Rattle.fcs.specs.Checksum.{bit_step, bit_steps, byte_step}
-use Rattle.fcs.proofs.bit_rule.Statement.{statement}
-use Rattle.fcs.proofs.bit_rule.Tie as tie
+use Rattle.fcs.proofs.bit_rule.Goals as goal
+use Rattle.fcs.proofs.bit_rule.Goals.{then-crc-bits, else-crc-bits}
 
 -- one turn of the loop is one step of the rule
 next : (k seed bits whole : ℕ) → k < 8 → bit_steps (8 - k) seed bits ≡ whole
@@ -24,27 +22,20 @@ other : (seed bits : ℕ) → (bit_and seed 1 ≡ bit_and bits 1 → ⊥) → bi
 unfolding bit_step
 other seed bits f = rw (ne_eqb (seed % 2) (bits % 2) (λ e. f (and_mask seed 1 ∙ e ∙ sym (and_mask bits 1))))
 
-abbrev invariant-loop : tie.invariant-loop
-invariant-loop seed byte crc₀ bits₀ k₀ crc bits k = (k ≤ 8) × (bit_steps (8 - k) crc bits ≡ byte_step seed byte)
-
-abbrev decreases-loop : tie.decreases-loop
-decreases-loop seed byte crc₀ bits₀ k₀ crc bits k = 8 - k
-
-loop-holds : tie.Need-loop-init invariant-loop decreases-loop
+pub loop-k-init : goal.loop-k-init
 unfolding byte_step
-loop-holds c = (omega arith, refl)
+loop-k-init c = (omega arith, refl)
 
-loop-again : tie.Need-loop-preserved invariant-loop decreases-loop
-loop-again c =
-    let l = c.before.before.loop in
+pub loop-k-preserved : goal.loop-k-preserved
+loop-k-preserved c =
+    let l = c.loop-k in
     let e = next l.k l.crc l.bits _ (omega arith) l.invariant.1 in
-    ⊎_elim (λ w. (omega arith, rw (w.1, ← same l.crc l.bits w.0.taken) e))
-    (λ w. (omega arith, rw (w.1, ← other l.crc l.bits w.0.left) e)) c.if1.branch
+    elim c.if-crc-bits.branch [
+      then-crc-bits w ↦ (omega arith, rw (w.crc-is, ← same l.crc l.bits w.if-crc-bits.true) e)
+    | else-crc-bits w ↦ (omega arith, rw (w.crc-is, ← other l.crc l.bits w.if-crc-bits.false) e)
+    ]
 
-returns : tie.Need-returns invariant-loop decreases-loop
+pub returns : goal.returns
 unfolding bit_steps
-returns c = let e : 8 - c.before.loop.k ≡ 0 = omega arith in rw e at c.before.loop.invariant.1
+returns c = let e : 8 - c.loop-k.k ≡ 0 = omega arith in rw e at c.loop-k.invariant.1
 
-pub bit-rule-spec : {M : Type 1} → statement M
-bit-rule-spec =
-    tie.close (tie.spec invariant-loop decreases-loop loop-holds (λ c. omega arith) (λ c. omega arith) loop-again returns)
