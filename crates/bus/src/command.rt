@@ -38,7 +38,7 @@ pub const BAD: usize = 15;
 pub const SILENT: usize = 16;
 
 // values: the numbers of its fields. count: how many bytes it has.
-#[derive(Drop)]
+#[derive(Clone, Copy)]
 pub struct Command {
     pub values: Values,
     pub count: usize,

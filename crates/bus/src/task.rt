@@ -13,7 +13,7 @@ use text::field::u32_at;
 
 // first: the command's move; a round goes on with others. last: the move that is made. left: how often the first is still to be made.
 // to_the_end: no more often than brings everything through.
-#[derive(Drop)]
+#[derive(Clone, Copy)]
 pub struct Task {
     pub first: Move,
     pub last: Move,

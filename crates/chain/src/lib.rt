@@ -1,5 +1,6 @@
 // Chaining: cut a message into packets, join packets to a message. Only this crate knows PCTR.
 #![tactic(auto)]
+
 ghost use Rattle.std.specs.Prelude.{◌≡◌, ◌∷◌, ◌+◌, ◌*◌, ◌≤◌, ◌<◌, length};
 ghost use Rattle.base.specs.Buffer.{put};
 ghost use Rattle.base.specs.Range.{least_of};
@@ -10,7 +11,7 @@ ghost use Rattle.chain.specs.Join.{fresh_joining, closed, grown, joins, drops_ch
 use base::{answer, buffer};
 
 // R1.6: what cut tells of a packet.
-#[derive(Drop)]
+#[derive(Clone, Copy)]
 pub struct Piece {
     pub count: u16,
     pub length: u16,
@@ -18,14 +19,14 @@ pub struct Piece {
 }
 
 // R7.4: what is kept of a message whose packets are being joined.
-#[derive(Drop)]
+#[derive(Clone, Copy)]
 pub struct Joining {
     pub length: u16,
     pub opened: bool,
 }
 
 // R1.6, R7.6: what join tells: with answer 10 also the packet that tells the peer of it, as a number.
-#[derive(Drop)]
+#[derive(Clone, Copy)]
 pub struct Joined {
     pub state: Joining,
     pub length: u16,

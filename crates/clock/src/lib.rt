@@ -1,5 +1,6 @@
 // look and acknowledge: what the time does (R6.2 to R6.4).
 #![tactic(auto)]
+
 ghost use Rattle.std.specs.Prelude.{◌≡◌, ◌≤◌, ◌<◌, length};
 ghost use Rattle.base.specs.Answer.{done};
 ghost use Rattle.state.specs.State.{sent_before};
@@ -11,7 +12,7 @@ use base::answer;
 use state::{Link, Outcome};
 
 // look's answer: a type of its own, so that it can tell more than the other calls' do later, e.g. when the next timer is due.
-#[derive(Drop)]
+#[derive(Clone, Copy)]
 pub struct Looked {
     pub outcome: Outcome,
 }

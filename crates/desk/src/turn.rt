@@ -34,7 +34,7 @@ const SETTINGS: Settings = Settings {
 
 // What a turn leaves: all that its call gave, the end's state in it; how many packets of the message are taken; and whether the end was
 // made fresh, so that what came in before is to be thrown away.
-#[derive(Drop)]
+#[derive(Clone, Copy)]
 pub struct Turn {
     pub last: Outcome,
     pub taken: u32,

@@ -28,7 +28,7 @@ pub type Store = [u8; STORE];
 
 // first, queue: where in their ring the frames on their way to the end begin, and how many they are. taken, delivered: how many packets it
 // took and delivered since it was fresh. dropped: how many of all that it ever took a reset has dropped.
-#[derive(Drop)]
+#[derive(Clone, Copy)]
 pub struct End {
     pub link: Link,
     pub first: usize,
@@ -40,7 +40,7 @@ pub struct End {
 
 // passed, rounds: the milliseconds and timer rounds since both ends started. stretches: how many have begun since then. phase: what is
 // promised, by the numbers of crate::stretch.
-#[derive(Drop)]
+#[derive(Clone, Copy)]
 pub struct Ends {
     pub desk: End,
     pub chip: End,
@@ -96,7 +96,7 @@ fn slots_of(end: usize) -> usize
 // ---- the start of both
 
 // What both ends answer, and the two of them.
-#[derive(Drop)]
+#[derive(Clone, Copy)]
 pub struct Started {
     pub ends: Ends,
     pub answer: u8,

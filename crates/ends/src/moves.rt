@@ -37,7 +37,7 @@ pub const ROUND: usize = 8;
 // Nothing; as every kind from here on.
 pub const OVER: usize = 9;
 
-#[derive(Drop)]
+#[derive(Clone, Copy)]
 pub struct Move {
     pub kind: usize,
     pub end: usize,
@@ -55,7 +55,7 @@ pub fn new(kind: usize, end: usize, number: u32) -> Move {
 // none was. sent_at, sent: the same of the frame that was sent. freed, dropped: how many packets wait no more because they were
 // acknowledged, and because of a reset. is_crowded: what was sent is lost, since 64 frames are on their way already. heard: what was heard in
 // the frame that was carried; of a resynchronise a reset. was_lost: the link was lost before.
-#[derive(Drop)]
+#[derive(Clone, Copy)]
 pub struct Event {
     pub heard: usize,
     pub delivered_at: usize,
@@ -69,7 +69,7 @@ pub struct Event {
     pub was_lost: bool,
 }
 
-#[derive(Drop)]
+#[derive(Clone, Copy)]
 pub struct Moved {
     pub ends: Ends,
     pub event: Event,

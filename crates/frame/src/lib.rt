@@ -1,5 +1,6 @@
 // A frame's bytes, heard and written: R3, R4.1 to R4.4. Only this crate knows the place of a byte and the order of FCS.
 #![tactic(auto)]
+
 ghost use Rattle.std.specs.Prelude.{◌≡◌, [], ◌∷◌, ◌++◌, ◌+◌, ◌≤◌, ◌<◌, length, take};
 ghost use Rattle.base.specs.Buffer.{put};
 ghost use Rattle.frame.specs.Bytes.{len_bytes, by_order, fcs_bytes, sealed, data_frame, ack_frame, nak_frame, frame_of, reset_frame, Written};
@@ -9,7 +10,7 @@ ghost use Rattle.frame.specs.Steps.{len_of, fcs_at, used, accepted, judged, hear
 use base::{answer, buffer};
 
 // What the bytes of a frame depend on beside what it says, for the writer as for the hearer: D, and the order of the FCS bytes (R3.8).
-#[derive(Drop)]
+#[derive(Clone, Copy)]
 pub struct Format {
     pub d: u16,
     pub order: u8,
@@ -21,7 +22,7 @@ pub const LOW_FIRST: u8 = 0;
 pub const HIGH_FIRST: u8 = 1;
 
 // What steps 1 to 4 make of a received frame; each refusal is a case of its own, with a number of its own (R12.7).
-#[derive(Drop)]
+#[derive(Clone, Copy)]
 pub enum Heard {
     Size,
     Sum,

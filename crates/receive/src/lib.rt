@@ -1,5 +1,6 @@
 // take: what a received frame does, R4.
 #![tactic(auto)]
+
 ghost use Rattle.std.specs.Prelude.{◌≡◌, true, false, ◌+◌, ◌≤◌, ◌<◌, length};
 ghost use Rattle.base.specs.Answer.{done};
 ghost use Rattle.frame.specs.Steps.{acknowledged_in};

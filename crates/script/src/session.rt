@@ -22,7 +22,7 @@ pub const UNWRITTEN: u8 = 0xEE;
 pub const UNSENT: u8 = 0xDD;
 
 // slots, frame, room: how many bytes are lent. is_worked: each line is printed again, and what it gives behind it.
-#[derive(Drop)]
+#[derive(Clone, Copy)]
 pub struct Session {
     pub link: Link,
     pub joining: Joining,
@@ -60,7 +60,7 @@ pub const FRAMES: usize = 4;
 pub const NO_LINE: usize = 5;
 
 // word: its place among its owner's words. is_call: it prints what it gives.
-#[derive(Drop)]
+#[derive(Clone, Copy)]
 pub struct Command {
     pub form: Form,
     pub owner: usize,

@@ -1,5 +1,6 @@
 // What an end sends: submit, and the one maker of a repeat, of a control ACK and of a control NAK.
 #![tactic(auto)]
+
 ghost use Rattle.std.specs.Prelude.{◌≡◌, ◌+◌, ◌≤◌, ◌<◌, length};
 ghost use Rattle.base.specs.Buffer.{put};
 ghost use Rattle.state.specs.Bounds.{limit_of};
@@ -14,7 +15,7 @@ use base::{answer, buffer};
 use state::{Link, Outcome};
 
 // A state, and the length of the frame that was sent with it, 0 for none.
-#[derive(Drop)]
+#[derive(Clone, Copy)]
 pub struct Sent {
     pub state: Link,
     pub sent: u16,

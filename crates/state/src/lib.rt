@@ -1,6 +1,7 @@
 // What an end keeps (R2, R5): its settings and its state, when they are well formed, the gate 1, 2, 3 (R9.1), fresh, timers (R6); start and
 // resynchronise.
 #![tactic(auto)]
+
 ghost use Rattle.std.specs.Prelude.{◌≡◌, ◌<◌, ◌≤◌, length};
 ghost use Rattle.state.specs.Bounds.{limit_of, in_range, slots_need};
 ghost use Rattle.state.specs.State.{last_correct, behind, sent_before, slot_of, start_of, length_ok, numbers_ok, well_formed, fresh_of, renewed};
@@ -13,7 +14,7 @@ use base::answer;
 use frame::Format;
 
 // R2.1
-#[derive(Drop)]
+#[derive(Clone, Copy)]
 pub struct Settings {
     pub format: Format,
     pub transtimeout: u16,
@@ -23,7 +24,7 @@ pub struct Settings {
 }
 
 // R5.1, with its arrays in the form of R12.5
-#[derive(Drop)]
+#[derive(Clone, Copy)]
 pub struct Link {
     pub settings: Settings,
     pub starts: [u32; 2],
@@ -39,7 +40,7 @@ pub struct Link {
 }
 
 // R1.5
-#[derive(Drop)]
+#[derive(Clone, Copy)]
 pub struct Outcome {
     pub state: Link,
     pub sent: u16,

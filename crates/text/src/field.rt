@@ -38,7 +38,7 @@ const DASH: u8 = 45;
 const NO_BYTE: u16 = 256;
 
 // end: the index past the field. count: how many bytes it has, if it is bytes or a text.
-#[derive(Drop)]
+#[derive(Clone, Copy)]
 struct Field {
     value: u64,
     end: usize,
@@ -47,7 +47,7 @@ struct Field {
 }
 
 // count: how many bytes its bytes or its text are. good: the line has the fields of its command and nothing else.
-#[derive(Drop)]
+#[derive(Clone, Copy)]
 pub struct Fields {
     pub values: Values,
     pub count: usize,
@@ -55,7 +55,7 @@ pub struct Fields {
 }
 
 // Where a command's fields stand in a table of largest numbers, and how many of them a line cannot do without.
-#[derive(Drop)]
+#[derive(Clone, Copy)]
 pub struct Form {
     pub start: usize,
     pub end: usize,

@@ -4,7 +4,7 @@ use base::answer;
 use frame::{Format, Heard};
 
 // A place in the list of names, and the numbers that stand in the name.
-#[derive(Drop)]
+#[derive(Clone, Copy)]
 struct Name {
     place: usize,
     first: u8,

@@ -14,7 +14,7 @@ const HASH: u8 = 35;
 
 // number: how many lines have ended. start, end: where the last of them is, if is_given. from, count: which bytes of the input are
 // not yet looked at. is_long: the line was too long. skipping: the line that is being read is.
-#[derive(Drop)]
+#[derive(Clone, Copy)]
 pub struct Reader {
     pub number: u64,
     pub start: usize,
