@@ -1,0 +1,10 @@
+-- `frame::write_control` meets its contract.
+use mathlib.Core.Path.{refl}
+use Rattle.frame.specs.Bytes.{frame_of}
+use Rattle.frame.proofs.Writing.{sealed_written}
+use native.Mathlib.Omega.{arith}
+use Rattle.frame.proofs.write_control.Goals as goal
+
+pub returns : goal.returns
+unfolding frame_of
+returns c = sealed_written c.args.format _ _ _ _ _ 3 refl (omega arith) c.put_head.ensures c.seal.ensures
