@@ -1,5 +1,5 @@
 -- The tests of the state as plain facts, and back. Assumes nothing.
-use Rattle.std.proofs.Common.{◌≡◌, ℕ, zero, suc, ◌+◌, ◌-◌, ◌*◌, ◌%◌, ◌<◌, ◌≤◌, Bool, true, false, cond, ◌&&◌, ◌||◌, eqb, ltb, leb, List, get_or, sym, refl, ap, mul-le-mul_right, mod-lt, suc-mul, arith, ltb-false, ltb-true, le-ltb, lt-ltb, eq-eqb, eqb-true, le-leb, leb-true}
+use Rattle.std.proofs.Common.{◌≡◌, ℕ, zero, suc, ◌+◌, ◌*◌, ◌%◌, ◌<◌, ◌≤◌, Bool, true, false, cond, ◌&&◌, ◌||◌, eqb, ltb, leb, List, get_or, refl, ap, mul-le-mul_right, mod-lt, suc-mul, arith, ltb-false, ltb-true, le-ltb, lt-ltb, eq-eqb, eqb-true, le-leb, leb-true}
 use borrow.Author.Tests.{eqb-false}
 use Rattle.base.specs.Range.{within}
 use Rattle.base.specs.Answer.{done, out_of_range, short_buffer, link_lost}
@@ -11,7 +11,7 @@ use Rattle.state.specs.declared.Outcome.{Outcome}
 use Rattle.state.specs.Bounds.{limit_of, in_range, slots_need, frame_need}
 use Rattle.state.specs.State.{sent_before, slot_of, length_of, length_ok, numbers_ok, well_formed}
 use Rattle.state.specs.Gate.{After, refused, gated, entry_of, gate_of}
-use Rattle.state.specs.Timer.{elapsed, left, due, onward}
+use Rattle.state.specs.Timer.{left, due, onward}
 use Rattle.state.specs.Formed.{InRange, LengthOk, Formed, Entered, Open, Usable}
 
 -- ---- settings
