@@ -1,0 +1,23 @@
+-- `receive::take_data` meets its contract.
+use Rattle.receive.proofs.Facts.{step6_ready, step6_expected, delivered_data, passed_data}
+use borrow.Author.Rules.{rules}
+use Rattle.receive.proofs.take_data.Goals as goal
+
+
+pub deliver_data-requires : goal.deliver_data-requires
+deliver_data-requires c = let p = c.requires in
+    let a = c.args in (
+      step6_expected a.l _ a.nak a.acknowledged c.obey_acknowledgement-sixth.ensures p.1.1.1,
+      step6_ready _ _ a.nak _ _ _ _ p.0 p.2 c.is_repeatable.ensures c.obey_acknowledgement-sixth.ensures,
+    )
+
+pub returns-then-number-l : goal.returns-then-number-l
+returns-then-number-l c = delivered_data _ _ _ _ _ _ _ _ _ _ _ c.if-number-l.true c.is_repeatable.ensures c.obey_acknowledgement-sixth.ensures c.deliver_data.ensures
+
+pub pass_data-requires : goal.pass_data-requires
+pass_data-requires c = let p = c.requires in
+    (p.1.2, step6_ready _ _ c.args.nak _ _ _ _ p.0 p.2 c.is_repeatable.ensures c.obey_acknowledgement-sixth.ensures)
+
+pub returns : goal.returns
+returns c = passed_data _ _ _ _ _ _ _ _ _ _ _ c.if-number-l.false c.is_repeatable.ensures c.obey_acknowledgement-sixth.ensures c.pass_data.ensures
+
