@@ -1,12 +1,5 @@
--- What the gates of joining say where they are open; the calls alone. Assumes nothing.
-use mathlib.Core.Path.{◌≡◌, sym, ap, ◌∙◌}
-use mathlib.Core.Bool.{Bool, true, cond, ◌&&◌}
-use mathlib.Core.List.{List}
-use Prim.Native.Nat.{ℕ, ◌≤◌}
-use native.Mathlib.Omega.{arith}
-use borrow.Author.Tests.{ltb-false, eqb-true}
-use lib.ListN.{length, get_or}
-use lib.Dec.{ltb, leb, eqb}
+-- What the gates of joining say where they are open; the calls alone.
+use Rattle.std.proofs.Common.{◌≡◌, sym, ap, ◌∙◌, Bool, true, cond, ◌&&◌, List, ℕ, ◌≤◌, arith, ltb-false, eqb-true, length, get_or, ltb, leb, eqb}
 use Rattle.base.specs.Range.{within}
 use Rattle.base.specs.Answer.{done, out_of_range, short_buffer, packet_size, other_channel, chain_fault, fault_told, secured_packet, too_long}
 use Rattle.base.proofs.Tests.{and_left, cond_cases, within_low, within_high, passed, spared, first_of_four}

@@ -1,14 +1,7 @@
--- The parts of a message: how many, where they begin, how long they are. Assumes nothing.
-use mathlib.Core.Path.{◌≡◌, refl, sym, ap, ◌∙◌}
-use mathlib.Core.Bool.{true, cond}
-use mathlib.Core.List.{List, [], ◌∷◌}
-use Prim.Native.Nat.{ℕ, suc, ◌+◌, ◌-◌, ◌*◌, ◌<◌, ◌≤◌}
-use native.Mathlib.Nat.{div-mul-le_self, div-le_self, lt-div-mul-add, mul-le-mul_right, suc-mul}
-use native.Mathlib.Omega.{arith}
-use borrow.Author.Tests.{ltb-true, ltb-false}
-use lib.ListN.{length, take, drop, set, length-take, length-drop}
-use lib.Seq.{take-length, take_all}
-use lib.Dec.{ltb}
+-- The parts of a message: how many, where they begin, how long they are.
+use Rattle.std.proofs.Common.{◌≡◌, refl, sym, ap, ◌∙◌, true, cond, List, [], ◌∷◌, ℕ, suc, ◌+◌, ◌-◌, ◌*◌, ◌<◌, ◌≤◌, div-mul-le_self, div-le_self, mul-le-mul_right, suc-mul, arith, ltb-true, ltb-false, length, take, drop, set, length-take, length-drop, take_all, ltb}
+use native.Mathlib.Nat.{lt-div-mul-add}
+use lib.Seq.{take-length}
 use Rattle.base.specs.Range.{within, least_of}
 use Rattle.base.specs.Buffer.{put}
 use Rattle.base.specs.Answer.{done, out_of_range, short_buffer, message_size, no_such_packet}

@@ -1,13 +1,5 @@
--- Cutting gives the packets of a message, and joining them gives the message. Assumes nothing.
-use mathlib.Core.Path.{◌≡◌, refl, sym, ap, subst, ◌∙◌}
-use mathlib.Core.Bool.{true, false, cond}
-use mathlib.Core.List.{List, [], ◌∷◌, ◌++◌, append_assoc, append-nil}
-use Prim.Native.Nat.{ℕ, zero, suc, ◌+◌, ◌-◌, ◌*◌, ◌/◌, ◌%◌, ◌<◌, ◌≤◌}
-use native.Mathlib.Nat.{suc-mul, zero-mul}
-use native.Mathlib.Omega.{arith}
-use borrow.Author.Tests.{le-leb, le-ltb, lt-ltb, eq-eqb, ne_eqb}
-use lib.ListN.{length, take, drop, length-drop, length-take}
-use lib.Seq.{take-add, take_all}
+-- Cutting gives the packets of a message, and joining them gives the message.
+use Rattle.std.proofs.Common.{◌≡◌, refl, sym, ap, subst, ◌∙◌, true, false, cond, List, [], ◌∷◌, ◌++◌, append_assoc, append-nil, ℕ, zero, suc, ◌+◌, ◌-◌, ◌*◌, ◌/◌, ◌%◌, ◌<◌, ◌≤◌, suc-mul, zero-mul, arith, le-leb, le-ltb, lt-ltb, eq-eqb, ne_eqb, length, take, drop, length-drop, length-take, take-add, take_all}
 use Rattle.base.specs.Answer.{done}
 use Rattle.base.specs.Buffer.{put}
 use Rattle.base.proofs.Put.{put-length, put-take}

@@ -1,12 +1,6 @@
--- The wrong calls of specs/FalseCalls.antt, each tried at one input or two, of numbers and bytes that code can hold, by computing. Assumes nothing.
-use mathlib.Core.Path.{◌≡◌, refl, ap}
-use mathlib.Core.Logic.{◌≢◌}
-use mathlib.Core.Bool.{true, false}
-use mathlib.Core.List.{List, [], ◌∷◌}
-use Prim.Native.Nat.{ℕ, suc, ◌+◌, ◌-◌, ◌%◌}
-use native.Mathlib.Omega.{arith}
+-- The wrong calls of specs/FalseCalls.antt, each tried at one input or two, of numbers and bytes that code can hold, by computing.
+use Rattle.std.proofs.Common.{◌≡◌, refl, ap, ◌≢◌, true, false, List, [], ◌∷◌, ℕ, suc, ◌+◌, ◌-◌, ◌%◌, arith, length, get_or, replicate}
 use borrow.Author.Tests.{eqb-false}
-use lib.ListN.{length, get_or, replicate}
 use Rattle.base.specs.Buffer.{put}
 use Rattle.chain.specs.declared.Joining.{Joining}
 use Rattle.chain.specs.Cut.{cut_out}
@@ -48,7 +42,7 @@ cut_shut = record {
   invents = λ count bytes more same.
       let e : 2 + count + (11 + bytes) ≡ 13 = ap (λ (f : CutCall). (f 11 message 0 buffer).told.count + (f 11 message 0 buffer).told.length) same in
       omega (arith, more, e);
-  short_buffer_lem = λ same. eqb-false 0 2 refl (ap (λ (f : CutCall). (f 11 message 0 (replicate 10 0)).told.answer) same);
+  short_buffer = λ same. eqb-false 0 2 refl (ap (λ (f : CutCall). (f 11 message 0 (replicate 10 0)).told.answer) same);
   past_the_last = λ same. eqb-false 0 16 refl (ap (λ (f : CutCall). (f 11 message 2 buffer).told.answer) same);
   empty_message = λ same. eqb-false 0 13 refl (ap (λ (f : CutCall). (f 11 [] 0 buffer).told.answer) same);
   behind_the_packet = λ byte same. other_differs byte (ap (λ (f : CutCall). get_or (f 11 message 1 (replicate 11 (other byte))).buffer 2 0) same);
@@ -87,8 +81,8 @@ join_shut = record {
   behind_the_joined = λ same.
       eqb-false 11 10 refl (ap (λ (f : JoinCall). (f 11 (record { length = 1; opened = false }) (1 ∷ replicate 10 1) room).told.state.length) same);
   one_too_many = λ same. eqb-false 4097 0 refl (ap (λ (f : JoinCall). (f 11 (begun 4096) (4 ∷ 1 ∷ []) (replicate 4097 0)).told.length) same);
-  secured_middle_lem = λ same. eqb-false 12 0 refl (ap (λ (f : JoinCall). (f 11 (begun 10) (10 ∷ replicate 10 1) room).told.answer) same);
-  two_channels_lem = λ same. eqb-false 0 11 refl (ap (λ (f : JoinCall). (f 11 fresh_joining (16 ∷ 1 ∷ []) room).told.answer) same);
+  secured_at_middle = λ same. eqb-false 12 0 refl (ap (λ (f : JoinCall). (f 11 (begun 10) (10 ∷ replicate 10 1) room).told.answer) same);
+  channel_mistaken = λ same. eqb-false 0 11 refl (ap (λ (f : JoinCall). (f 11 fresh_joining (16 ∷ 1 ∷ []) room).told.answer) same);
   behind_the_part = λ byte same. other_differs byte (ap (λ (f : JoinCall). get_or (f 11 fresh_joining (0 ∷ 1 ∷ []) (replicate 4096 (other byte))).room 1 0) same);
   on_refusal = λ byte same. other_differs byte (ap (λ (f : JoinCall). get_or (f 11 fresh_joining [] (other byte ∷ [])).room 0 0) same);
 }

@@ -101,7 +101,7 @@ pub record CutShut : Type 0 where
   pub idles : cut_refusing done ≢ cut_out
   pub pretends : cut_pretending ≢ cut_out
   pub invents : (count bytes : ℕ) → 1 ≤ count + bytes → cut_inventing count bytes ≢ cut_out
-  pub short_buffer_lem : cut_sparing ≢ cut_out
+  pub short_buffer : cut_sparing ≢ cut_out
   pub past_the_last : cut_past_last ≢ cut_out
   pub empty_message : cut_empty ≢ cut_out
   pub behind_the_packet : (byte : ℕ) → cut_overrunning byte ≢ cut_out
@@ -226,8 +226,8 @@ pub record JoinShut : Type 0 where
   pub orphan : as_if last true ≢ joined
   pub behind_the_joined : behind_joined ≢ joined
   pub one_too_many : one_more ≢ joined
-  pub secured_middle_lem : secured_middle ≢ joined
-  pub two_channels_lem : two_channels ≢ joined
+  pub secured_at_middle : secured_middle ≢ joined
+  pub channel_mistaken : two_channels ≢ joined
   pub on_refusal : (byte : ℕ) → join_smearing byte ≢ joined
   pub behind_the_part : (byte : ℕ) → join_overrunning byte ≢ joined
 

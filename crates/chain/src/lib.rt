@@ -302,8 +302,8 @@ fn chain_gate(m: u16, j: Joining, pctr: u8, size: usize) -> u8
 }
 
 fn tell(j: Joining, chain: u8, size: usize) -> Joined
-    requires size_bound { total_of j chain size ≤ 4096 }
-    requires le_size { 1 ≤ size }
+    requires fits { total_of j chain size ≤ 4096 }
+    requires has_pctr { 1 ≤ size }
     ensures { result ≡ part_told j chain size }
 {
     let total = (place_of(j, chain) + (size - 1)) as u16;

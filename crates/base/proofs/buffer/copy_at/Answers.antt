@@ -1,5 +1,5 @@
 -- `base::buffer::copy_at`: the part that is lent comes back as the source, so the whole is the source put at its place.
-use Rattle.std.proofs.Common.{◌+◌, ◌-◌, length, arith, ◌++◌, take, drop, List, ℕ, sym, ap, ◌≡◌, ◌∙◌, drop-drop}
+use Rattle.std.proofs.Common.{◌+◌, ◌-◌, length, arith, ◌≡◌, drop-drop}
 use Rattle.base.specs.Buffer.{put}
 use Rattle.base.proofs.buffer.copy_at.Goals as goal
 
