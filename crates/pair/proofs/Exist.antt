@@ -36,7 +36,7 @@ use Rattle.pair.specs.System.{swap, IsClock}
 use Rattle.pair.specs.Round.{due_at, head, none, here, there, carried_in, nothing, sends-on, round, begin, next}
 use Rattle.pair.specs.Demand3.{RoundsExist, Demand3, CarryingEnds}
 use Rattle.pair.specs.TrueCalls.{true_calls, StartsFresh, System, sent_by, left_by, takes, look_of, looks, Enough, Carried, Carries, Looks, Round, Rounds}
-use Rattle.pair.proofs.Line.{Line, data-next, ack-next, idle-next, Idle, by_size, by-sum, a-nak}
+use Rattle.pair.proofs.Line.{Line, data-next, ack-next, idle-next, Idle, by_size, by_sum, a-nak}
 use Rattle.pair.proofs.Invariant.{Inv, inv_swap}
 use Rattle.pair.proofs.Calls.{heard_there, sent_frame, repeat_of, repeat_size, repeat-heard}
 use Rattle.pair.proofs.Moments.{moment_range}
@@ -122,7 +122,7 @@ pub used-idle : (s : Settings) (S : System) (frame : List ℕ) (ms : ℕ) (h : H
     → Used s.format h (obeyed S.here.state S.here.slots frame ms h)
 unfolding obeyed
 used-idle s S frame ms Size r I room small by_size = used_nak s Size S.here.state S.here.slots frame (refusal_of Size) r room I.here.settings refl refl
-used-idle s S frame ms Sum r I room small by-sum = used_nak s Sum S.here.state S.here.slots frame (refusal_of Sum) r room I.here.settings refl refl
+used-idle s S frame ms Sum r I room small by_sum = used_nak s Sum S.here.state S.here.slots frame (refusal_of Sum) r room I.here.settings refl refl
 used-idle s S frame ms (Nak k) r I room small (a-nak k₁) = go (repeatable l k) refl
   where
     l : Link

@@ -35,7 +35,7 @@ use Rattle.pair.specs.System.{swap, IsClock}
 use Rattle.pair.specs.Round.{head, none, here, there, runs, due_at, some_runs, some_due, Passes, stays, moves, nothing, sends-on, round, other-first, begin, next}
 use Rattle.pair.specs.Demand3.{Through, Alive, WithinRounds, Within24}
 use Rattle.pair.specs.TrueCalls.{true_calls, System, delivered_by, takes, look_of, looks, Enough, Carried, Carries, Looks, Round, Rounds}
-use Rattle.pair.proofs.Line.{Line, data-next, ack-next, idle-next, Idle, by_size, by-sum, a-nak, line_taken, line_freed}
+use Rattle.pair.proofs.Line.{Line, data-next, ack-next, idle-next, Idle, by_size, by_sum, a-nak, line_taken, line_freed}
 use Rattle.pair.proofs.Invariant.{Inv, inv_swap, window_small}
 use Rattle.pair.proofs.Moments.{moment_range}
 use Rattle.pair.proofs.Moves.{take_kept, look_kept, moment_kept}
@@ -57,7 +57,7 @@ calm_nak l slots frame answer false = record { low = omega arith; few = omega ar
 calm_idle : (l : Link) (slots frame : List ℕ) (ms : ℕ) (h : Heard) → Sound l → acknowledged_in h ≤ 3 → Idle h → Calm l (obeyed l slots frame ms h) 0
 unfolding obeyed
 calm_idle l slots frame ms Size s small by_size = calm_nak l slots frame (refusal_of Size) l.nakmark
-calm_idle l slots frame ms Sum s small by-sum = calm_nak l slots frame (refusal_of Sum) l.nakmark
+calm_idle l slots frame ms Sum s small by_sum = calm_nak l slots frame (refusal_of Sum) l.nakmark
 calm_idle l slots frame ms (Nak k) s small (a-nak k₁) = go (repeatable l k) refl
   where
     go : (t : Bool) → repeatable l k ≡ t → Calm l (concluded (cond t (sends_repeat l slots frame ms k) (silent l frame)) done 0 slots) 0

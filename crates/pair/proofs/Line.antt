@@ -15,7 +15,7 @@ use Rattle.pair.specs.System.{Harm, lost, damaged, later}
 -- a frame that neither frees nor delivers: damaged, or a NAK
 pub data Idle : Heard → Type 0 where
   by_size : Idle Size
-  by-sum : Idle Sum
+  by_sum : Idle Sum
   a-nak : (number : ℕ) → Idle (Nak number)
 
 -- Line format t h b e q: of the packets t that the other end took, the data in q that is not the next to be delivered has been delivered, h being
@@ -59,7 +59,7 @@ module _ (format : Format) (t : List (List ℕ)) where
 
   damage-idle : (frame : List ℕ) → (heard format frame ≡ Size) ⊎ (heard format frame ≡ Sum) → Idle (heard format frame)
   damage-idle frame (inl m) = rw m by_size
-  damage-idle frame (inr m) = rw m by-sum
+  damage-idle frame (inr m) = rw m by_sum
 
   pub line_harm : {h b e : ℕ} (q r : List (List ℕ)) → Harm format q r → Line format t h b e q → Line format t h b e r
   line_harm (frame ∷ q) r (lost frame₁ q₁) w = line_tail frame q w

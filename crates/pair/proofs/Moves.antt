@@ -45,7 +45,7 @@ use Rattle.pair.specs.System.{Harm, IsClock, submit, take_head, look, acknowledg
 use Rattle.pair.specs.Demand3.{FirstSoMany}
 use Rattle.pair.specs.TrueCalls.{true_calls, with_look, System, sent_by, taken_by, delivered_by, left_by, called, submits, takes, looks, acknowledges, Moment}
 use Rattle.pair.proofs.Moments.{moment_range, moment_holds}
-use Rattle.pair.proofs.Line.{Line, data-next, ack-next, idle-next, Idle, by_size, by-sum, a-nak, line_taken, line_freed, line_mono}
+use Rattle.pair.proofs.Line.{Line, data-next, ack-next, idle-next, Idle, by_size, by_sum, a-nak, line_taken, line_freed, line_mono}
 use Rattle.pair.proofs.Invariant.{Inv, inv_swap, restated, delivering, adding, inv_turned, inv_passed, inv_freed, inv_delivered, inv_added, inv_harm, inv_start, inv_first, window_small}
 use Rattle.pair.proofs.Calls.{heard_there, sent_frame, last_said, Before, concluded-silent, concluded_ack, concluded_nothing, concluded_nak, concluded-repeat}
 
@@ -60,7 +60,7 @@ idle_kept : (s : Settings) (S : System) (frame received : List ℕ) (rest : List
     → acknowledged_in h ≤ 3 → Idle h → Inv s (taking S received rest (obeyed S.here.state S.here.slots frame ms h))
 unfolding obeyed
 idle_kept s S frame received rest ms Size c r room I small by_size = concluded_nak s S frame rest (refusal_of Size) r (omega (arith, r.d_lo)) I
-idle_kept s S frame received rest ms Sum c r room I small by-sum = concluded_nak s S frame rest (refusal_of Sum) r (omega (arith, r.d_lo)) I
+idle_kept s S frame received rest ms Sum c r room I small by_sum = concluded_nak s S frame rest (refusal_of Sum) r (omega (arith, r.d_lo)) I
 idle_kept s S frame received rest ms (Nak k) c r room I small (a-nak k₁) = go (repeatable l k) refl
   where
     l : Link

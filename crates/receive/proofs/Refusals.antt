@@ -19,16 +19,21 @@ use Rattle.state.specs.declared.Outcome.{Outcome}
 use Rattle.state.specs.Gate.{After, gate_of}
 use Rattle.state.proofs.Facts.{gate_of_facts, gate_of_below, gated_cases}
 use Rattle.receive.specs.Take.{refused_with_nak, data_taken, obeyed, frame_taken}
-use Rattle.receive.specs.Refusals.{WithNak, by_size, by-sum, by_code, by_length, answering, heard_by, NumberAlone, AnswerTells}
+use Rattle.receive.specs.Refusals.{WithNak, by_size, by_sum, by_code, by_length, answering, heard_by, NumberAlone, AnswerTells}
 use Rattle.receive.proofs.Facts.{frame_taken_open}
 
 -- whatever the refusal is, the end does the same
 obeyed_nak : (l : Link) (slots frame : List ℕ) (ms : ℕ) (h : Heard) → WithNak h → obeyed l slots frame ms h ≡ refused_with_nak l slots frame h
 unfolding obeyed
 obeyed_nak l slots frame ms Size by_size = refl
-obeyed_nak l slots frame ms Sum by-sum = refl
+obeyed_nak l slots frame ms Sum by_sum = refl
 obeyed_nak l slots frame ms Code by_code = refl
 obeyed_nak l slots frame ms Length by_length = refl
+obeyed_nak l slots frame ms ControlSize w = elim w [ ]
+obeyed_nak l slots frame ms Reset w = elim w [ ]
+obeyed_nak l slots frame ms (Ack k) w = elim w [ ]
+obeyed_nak l slots frame ms (Nak k) w = elim w [ ]
+obeyed_nak l slots frame ms (Data n x k len) w = elim w [ ]
 
 pub number_alone : NumberAlone
 unfolding heard judged

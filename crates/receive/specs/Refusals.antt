@@ -15,7 +15,7 @@ use Rattle.receive.specs.Take.{frame_taken}
 -- R4.8: the refusals of R4.1, R4.2 and R4.4
 pub data WithNak : Heard → Type 0 where
   by_size : WithNak Size
-  by-sum : WithNak Sum
+  by_sum : WithNak Sum
   by_code : WithNak Code
   by_length : WithNak Length
 

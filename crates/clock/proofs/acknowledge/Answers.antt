@@ -3,9 +3,7 @@ use mathlib.Core.Path.{sym, ◌∙◌}
 use borrow.Author.Tests.{ne_eqb, eq-eqb}
 use Rattle.state.proofs.Facts.{gate_of_facts, control_fits}
 use Rattle.clock.specs.Look.{acknowledged_now}
-use borrow.Author.Rules.{rules}
 use Rattle.clock.proofs.acknowledge.Goals as goal
-
 
 pub acknowledge_if-requires : goal.acknowledge_if-requires
 acknowledge_if-requires c = control_fits _ _ _ (gate_of_facts _ _ _ (sym c.gate-refusal.ensures ∙ c.if-refusal-eq-DONE.true)).entered
@@ -17,4 +15,3 @@ returns-then-refusal-eq-DONE c = rw (← c.gate-refusal.ensures, eq-eqb _ _ c.if
 pub returns : goal.returns
 unfolding acknowledged_now
 returns c = rw (← c.gate-refusal.ensures, ne_eqb _ _ c.if-refusal-eq-DONE.false, c.answer_only.ensures)
-

@@ -3,9 +3,7 @@ use mathlib.Core.Path.{sym, ◌∙◌}
 use borrow.Author.Tests.{ne_eqb, eq-eqb}
 use Rattle.state.proofs.Facts.{gate_of_facts, open_usable}
 use Rattle.clock.specs.Look.{looked}
-use borrow.Author.Rules.{rules}
 use Rattle.clock.proofs.look.Goals as goal
-
 
 pub look_open-outcome-requires : goal.look_open-outcome-requires
 look_open-outcome-requires c = let g = sym c.gate-refusal.ensures ∙ c.if-refusal-eq-DONE.true in (g, open_usable _ _ _ (gate_of_facts _ _ _ g))
@@ -17,4 +15,3 @@ returns-then-refusal-eq-DONE c = rw (← c.gate-refusal.ensures, eq-eqb _ _ c.if
 pub returns : goal.returns
 unfolding looked
 returns c = rw (← c.gate-refusal.ensures, ne_eqb _ _ c.if-refusal-eq-DONE.false, c.answer_only-outcome.ensures)
-

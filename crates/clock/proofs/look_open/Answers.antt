@@ -1,8 +1,5 @@
 -- `clock::look_open` meets its contract.
-use mathlib.Core.Path.{sym, ◌∙◌}
 use Rattle.clock.specs.Look.{looked_open}
-use Rattle.clock.proofs.Facts.{due-waits}
-use borrow.Author.Rules.{rules}
 use Rattle.clock.proofs.look_open.Goals as goal
 
 pub returns-then-is_packet_due : goal.returns-then-is_packet_due
@@ -12,4 +9,3 @@ returns-then-is_packet_due c = rw (← c.after_oldest-n.ensures, ← c.is_packet
 pub returns : goal.returns
 unfolding looked_open
 returns c = rw (← c.after_oldest-n.ensures, ← c.is_packet_due.ensures, c.if-is_packet_due.false) c.look_newer.ensures
-
