@@ -1,10 +1,5 @@
 -- `receive::obey` meets its contract.
-use mathlib.Core.Path.{◌≡◌, subst}
-use Prim.Native.Nat.{◌≤◌}
-use Rattle.frame.specs.declared.Heard.{Heard}
-use Rattle.frame.specs.Steps.{acknowledged_in}
 use Rattle.receive.specs.Take.{obeyed}
-use borrow.Author.Rules.{rules}
 use Rattle.receive.proofs.obey.Goals as goal
 
 pub returns-in-Size : goal.returns-in-Size
@@ -42,4 +37,3 @@ returns-in-Nak c = rw c.in-Nak.is c.obey_nak.ensures
 pub returns-in-Data : goal.returns-in-Data
 unfolding obeyed
 returns-in-Data c = rw c.in-Data.is c.take_data.ensures
-

@@ -4,9 +4,7 @@ use borrow.Author.Tests.{ne_eqb, eq-eqb}
 use Rattle.frame.proofs.Hearing.{number_heard}
 use Rattle.receive.specs.Take.{frame_taken}
 use Rattle.state.proofs.Facts.{gate_of_facts, open_usable}
-use borrow.Author.Rules.{rules}
 use Rattle.receive.proofs.take.Goals as goal
-
 
 pub obey-requires : goal.obey-requires
 obey-requires c = let g = sym c.gate-refusal.ensures ∙ c.if-refusal-eq-DONE.true in
@@ -19,4 +17,3 @@ returns-then-refusal-eq-DONE c = rw (← c.gate-refusal.ensures, eq-eqb _ _ c.if
 pub returns : goal.returns
 unfolding frame_taken
 returns c = rw (← c.gate-refusal.ensures, ne_eqb _ _ c.if-refusal-eq-DONE.false, c.answer_only.ensures)
-

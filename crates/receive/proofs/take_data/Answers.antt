@@ -1,8 +1,6 @@
 -- `receive::take_data` meets its contract.
 use Rattle.receive.proofs.Facts.{step6_ready, step6_expected, delivered_data, passed_data}
-use borrow.Author.Rules.{rules}
 use Rattle.receive.proofs.take_data.Goals as goal
-
 
 pub deliver_data-requires : goal.deliver_data-requires
 deliver_data-requires c = let p = c.requires in
@@ -20,4 +18,3 @@ pass_data-requires c = let p = c.requires in
 
 pub returns : goal.returns
 returns c = passed_data _ _ _ _ _ _ _ _ _ _ _ c.if-number-l.false c.is_repeatable.ensures c.obey_acknowledgement-sixth.ensures c.pass_data.ensures
-
