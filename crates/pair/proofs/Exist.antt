@@ -141,6 +141,12 @@ used-idle s S frame ms (Nak k) r I room small (a-nak k₁) = go (repeatable l k)
         repeatable_holds (λ n. Used s.format (Nak k) (concluded (sends_repeat l S.here.slots frame ms n) done 0 S.here.slots)) l k
         (well_formed_facts l I.here.sound.formed).next small e (λ j wait may. repeated j wait)
     go false e = used_nothing s.format (Nak k) l S.here.slots frame done 0 refl
+used-idle s S frame ms Code r I room small idle = elim idle [ ]
+used-idle s S frame ms ControlSize r I room small idle = elim idle [ ]
+used-idle s S frame ms Length r I room small idle = elim idle [ ]
+used-idle s S frame ms Reset r I room small idle = elim idle [ ]
+used-idle s S frame ms (Ack k) r I room small idle = elim idle [ ]
+used-idle s S frame ms (Data n x k len) r I room small idle = elim idle [ ]
 
 pub used_data : (s : Settings) (l : Link) (slots frame : List ℕ) (ms number k len : ℕ) → InRange s → s.format.d ≤ length frame → l.settings ≡ s
     → Used s.format (Data number false k len) (obeyed l slots frame ms (Data number false k len))
@@ -217,8 +223,8 @@ pub record Emptied (s : Settings) (ms : ℕ) (S : System) : Type 0 where
   pub no_there : end.there.queue ≡ []
 
 -- the frame at the head is taken, and the load falls
-pub carried_less : (s : Settings) (S T : System) (ms : ℕ) → InRange s → Inv s S → Carried ms S T → loads s.format T + 1 ≤ loads s.format S
-carried_less s S T ms r I (head frame received rest room e) =
+pub carried_less : (s : Settings) (ms : ℕ) (S T : System) → InRange s → Inv s S → Carried ms S T → loads s.format T + 1 ≤ loads s.format S
+carried_less s ms S T r I (head frame received rest room e) =
     let a : After Outcome = frame_taken S.here.state S.here.slots frame ms received in
     let u : Used s.format (heard s.format received) a = used-take s S frame received rest ms r I room e in
     let left : left_by a received rest ≡ rest = rw u.gone in
@@ -237,8 +243,8 @@ stepped s S ms received rest c r I e =
     record {
       end = takes S frame ms received rest;
       carried = k;
-      inv = (carried_falls s S (takes S frame ms received rest) ms c r I k).inv;
-      less = carried_less s S (takes S frame ms received rest) ms r I k;
+      inv = (carried_falls s ms S (takes S frame ms received rest) c r I k).inv;
+      less = carried_less s ms S (takes S frame ms received rest) r I k;
     }
 
 -- a frame of either queue is carried, if there is one, and then more
@@ -334,18 +340,18 @@ rounds_exist s S ms n m c =
 
 -- ---- carrying ends in every mixture
 
-pub carries_load : (s : Settings) (S T : System) (ms : ℕ) → IsClock ms → InRange s → Inv s S → (k : Carries ms S T)
+pub carries_load : (s : Settings) (ms : ℕ) (S T : System) → IsClock ms → InRange s → Inv s S → (k : Carries ms S T)
     → carried_in k + loads s.format T ≤ loads s.format S
-carries_load s S T ms c r I (none S₁) = omega arith
-carries_load s S U ms c r I (here S₁ T U₁ k rest) =
-    omega (arith, carried_less s S T ms r I k, carries_load s T U ms c r (carried_falls s S T ms c r I k).inv rest)
-carries_load s S U ms c r I (there S₁ T U₁ k rest) =
+carries_load s ms S T c r I (none S₁) = omega arith
+carries_load s ms S U c r I (here S₁ T U₁ k rest) =
+    omega (arith, carried_less s ms S T r I k, carries_load s ms T U c r (carried_falls s ms S T c r I k).inv rest)
+carries_load s ms S U c r I (there S₁ T U₁ k rest) =
     let J : Inv s (swap S) = inv_swap s S I in
-    omega (arith, carried_less s (swap S) (swap T) ms r J k, carries_load s T U ms c r (inv_swap s (swap T) (carried_falls s (swap S) (swap T) ms c r J k).inv) rest)
+    omega (arith, carried_less s ms (swap S) (swap T) r J k, carries_load s ms T U c r (inv_swap s (swap T) (carried_falls s ms (swap S) (swap T) c r J k).inv) rest)
 
 pub carrying_ends : CarryingEnds true_calls
 carrying_ends s S T ms m c k =
-    omega (arith, carries_load s S T ms c (moment_range s S m) (moment_kept s S m) k, load_most s.format S.here.queue, load_most s.format S.there.queue)
+    omega (arith, carries_load s ms S T c (moment_range s S m) (moment_kept s S m) k, load_most s.format S.here.queue, load_most s.format S.there.queue)
 
 pub demand_3 : Demand3 true_calls
 demand_3 = record { first = first_so_many; within = within_24; exist = rounds_exist }

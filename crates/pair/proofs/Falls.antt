@@ -12,7 +12,7 @@ use lib.Dec.{eqb, ltb}
 use Rattle.base.specs.Answer.{done}
 use Rattle.base.proofs.Tests.{and_right, or_left_false, or_right_false}
 use Rattle.frame.specs.declared.Heard.{Heard}
-use Rattle.frame.specs.declared.Heard.TheVariants.{Size, Sum, Ack, Nak, Data}
+use Rattle.frame.specs.declared.Heard.TheVariants.{Size, Sum, Code, ControlSize, Length, Reset, Ack, Nak, Data}
 use Rattle.frame.specs.Bytes.{nak_frame}
 use Rattle.frame.specs.Steps.{heard, acknowledged_in, refusal_of}
 use Rattle.frame.proofs.Hearing.{number_heard}
@@ -65,6 +65,12 @@ calm_idle l slots frame ms (Nak k) s small (a-nak k₁) = go (repeatable l k) re
         repeatable_holds (λ n. Calm l (concluded (sends_repeat l slots frame ms n) done 0 slots) 0) l k (well_formed_facts l s.formed).next small e
         (λ j wait may. record { low = omega (arith, again_weight l ms j s wait may); few = omega arith; sticks = λ h. h })
     go false e = record { low = omega arith; few = omega arith; sticks = λ h. h }
+calm_idle l slots frame ms Code s small idle = elim idle [ ]
+calm_idle l slots frame ms ControlSize s small idle = elim idle [ ]
+calm_idle l slots frame ms Length s small idle = elim idle [ ]
+calm_idle l slots frame ms Reset s small idle = elim idle [ ]
+calm_idle l slots frame ms (Ack k) s small idle = elim idle [ ]
+calm_idle l slots frame ms (Data n x k len) s small idle = elim idle [ ]
 
 calm_ack : (l : Link) (slots frame : List ℕ) (ms k : ℕ) → Calm l (obeyed l slots frame ms (Ack k)) 0
 unfolding obeyed
@@ -137,8 +143,8 @@ falls_trans s S T U F G = record {
 
 -- ---- carrying
 
-pub carried_falls : (s : Settings) (S T : System) (ms : ℕ) → IsClock ms → InRange s → Inv s S → Carried ms S T → Falls s S T
-carried_falls s S T ms c r I (head frame received rest enough e) =
+pub carried_falls : (s : Settings) (ms : ℕ) (S T : System) → IsClock ms → InRange s → Inv s S → Carried ms S T → Falls s S T
+carried_falls s ms S T c r I (head frame received rest enough e) =
     let a : After Outcome = frame_taken S.here.state S.here.slots frame ms received in
     let J : Inv s (takes S frame ms received rest) = take_kept s S frame received rest ms c r e I in
     let k : Calm S.here.state a (got a received) = calm_take s S frame received rest ms e I in
@@ -151,14 +157,14 @@ carried_falls s S T ms c r I (head frame received rest enough e) =
       lost_there = λ h. h;
     }
 
-pub carries_falls : (s : Settings) (S T : System) (ms : ℕ) → IsClock ms → InRange s → Inv s S → Carries ms S T → Falls s S T
-carries_falls s S T ms c r I (none S₁) = falls_none s S I
-carries_falls s S U ms c r I (here S₁ T U₁ k rest) =
-    let F : Falls s S T = carried_falls s S T ms c r I k in
-    falls_trans s S T U F (carries_falls s T U ms c r F.inv rest)
-carries_falls s S U ms c r I (there S₁ T U₁ k rest) =
-    let F : Falls s S T = falls_swap s S T (carried_falls s (swap S) (swap T) ms c r (inv_swap s S I) k) in
-    falls_trans s S T U F (carries_falls s T U ms c r F.inv rest)
+pub carries_falls : (s : Settings) (ms : ℕ) (S T : System) → IsClock ms → InRange s → Inv s S → Carries ms S T → Falls s S T
+carries_falls s ms S T c r I (none S₁) = falls_none s S I
+carries_falls s ms S U c r I (here S₁ T U₁ k rest) =
+    let F : Falls s S T = carried_falls s ms S T c r I k in
+    falls_trans s S T U F (carries_falls s ms T U c r F.inv rest)
+carries_falls s ms S U c r I (there S₁ T U₁ k rest) =
+    let F : Falls s S T = falls_swap s S T (carried_falls s ms (swap S) (swap T) c r (inv_swap s S I) k) in
+    falls_trans s S T U F (carries_falls s ms T U c r F.inv rest)
 
 -- ---- looking
 
@@ -215,8 +221,8 @@ pub record Seen (s : Settings) (ms : ℕ) (S T : System) : Type 0 where
   pub still : T.there.state ≡ S.there.state
   pub served : due_at S.here.state ms ≡ true → T.here.state.lost ≡ false → Φ T + 1 ≤ Φ S
 
-pub looks_seen : (s : Settings) (S T : System) (ms : ℕ) → IsClock ms → InRange s → Inv s S → Looks ms S T → Seen s ms S T
-looks_seen s S T ms c r I (nothing S₁ frame enough z) = record {
+pub looks_seen : (s : Settings) (ms : ℕ) (S T : System) → IsClock ms → InRange s → Inv s S → Looks ms S T → Seen s ms S T
+looks_seen s ms S T c r I (nothing S₁ frame enough z) = record {
   falls = look_falls s S frame ms c r I enough;
   still = refl;
   served = λ d alive. absurd (silent-due d alive);
@@ -229,9 +235,9 @@ looks_seen s S T ms c r I (nothing S₁ frame enough z) = record {
     silent-due d alive =
         let was : S.here.state.lost ≡ false = not_lost S.here.state.lost (look_of S frame ms).told.state.lost alive k.sticks in
         true≢false (sym (eq-eqb (look_of S frame ms).told.sent 0 z) ∙ k.served (rw (d, was)) alive)
-looks_seen s S T ms c r I (sends-on S₁ T₁ frame enough n rest) =
+looks_seen s ms S T c r I (sends-on S₁ T₁ frame enough n rest) =
     let F : Falls s S (looks S frame ms) = look_falls s S frame ms c r I enough in
-    let G : Seen s ms (looks S frame ms) T = looks_seen s (looks S frame ms) T ms c r F.inv rest in
+    let G : Seen s ms (looks S frame ms) T = looks_seen s ms (looks S frame ms) T c r F.inv rest in
     record {
       falls = falls_trans s S (looks S frame ms) T F G.falls;
       still = G.still;
@@ -278,22 +284,22 @@ passes_cases S ms passed (moves passed₁ e k) = inr e
 pub onward-clock : (ms passed : ℕ) → IsClock (onward ms passed)
 onward-clock ms passed = omega arith
 
-pub round_turns : (s : Settings) (S T : System) (ms passed : ℕ) → IsClock ms → InRange s → Inv s S → Round ms S passed T → Turned s S T passed
-round_turns s S W ms passed c r I (other-first S₁ W₁ passed₁ k) = turned-swap s S W passed (round_turns s (swap S) (swap W) ms passed c r (inv_swap s S I) k)
-round_turns s S W ms passed c r I (round S₁ T U W₁ passed₁ carries no_here no_there p looks_here looks_there) =
+pub round_turns : (s : Settings) (ms : ℕ) (S T : System) (passed : ℕ) → IsClock ms → InRange s → Inv s S → Round ms S passed T → Turned s S T passed
+round_turns s ms S W passed c r I (other-first S₁ W₁ passed₁ k) = turned-swap s S W passed (round_turns s ms (swap S) (swap W) passed c r (inv_swap s S I) k)
+round_turns s ms S W passed c r I (round S₁ T U W₁ passed₁ carries no_here no_there p looks_here looks_there) =
     record { falls = all; either = λ alive. go alive (passes_cases T ms passed p) }
   where
     c₁ : IsClock (onward ms passed)
     c₁ = onward-clock ms passed
 
     F : Falls s S T
-    F = carries_falls s S T ms c r I carries
+    F = carries_falls s ms S T c r I carries
 
     A : Seen s (onward ms passed) T U
-    A = looks_seen s T U (onward ms passed) c₁ r F.inv looks_here
+    A = looks_seen s (onward ms passed) T U c₁ r F.inv looks_here
 
     B : Seen s (onward ms passed) (swap U) (swap W)
-    B = looks_seen s (swap U) (swap W) (onward ms passed) c₁ r (inv_swap s U A.falls.inv) looks_there
+    B = looks_seen s (onward ms passed) (swap U) (swap W) c₁ r (inv_swap s U A.falls.inv) looks_there
 
     G : Falls s U W
     G = falls_swap s U W B.falls
@@ -320,19 +326,19 @@ alive_before s S T F a = record {
   there = not_lost S.there.state.lost T.there.state.lost a.there F.lost_there;
 }
 
-pub rounds_fall : (s : Settings) (S T : System) (ms n total : ℕ) → IsClock ms → InRange s → Inv s S → Rounds ms S n total T → Falls s S T
-rounds_fall s S T ms n total c r I begin = falls_none s S I
-rounds_fall s S U ms n total c r I (next n₁ total₁ passed T U₁ rounds turn) =
-    let F : Falls s S T = rounds_fall s S T ms n₁ total₁ c r I rounds in
-    falls_trans s S T U F (round_turns s T U (onward ms total₁) passed (onward-clock ms total₁) r F.inv turn).falls
+pub rounds_fall : (s : Settings) (ms : ℕ) (S T : System) (n total : ℕ) → IsClock ms → InRange s → Inv s S → Rounds ms S n total T → Falls s S T
+rounds_fall s ms S T n total c r I begin = falls_none s S I
+rounds_fall s ms S U n total c r I (next n₁ total₁ passed T U₁ rounds turn) =
+    let F : Falls s S T = rounds_fall s ms S T n₁ total₁ c r I rounds in
+    falls_trans s S T U F (round_turns s (onward ms total₁) T U passed (onward-clock ms total₁) r F.inv turn).falls
 
 -- after n rounds both windows are empty, or the measure fell n times
-rounds_count : (s : Settings) (S T : System) (ms n total : ℕ) → IsClock ms → InRange s → Inv s S → Rounds ms S n total T → Alive T → Empty T ⊎ (Φ T + n ≤ Φ S)
-rounds_count s S T ms n total c r I begin alive = inr (omega arith)
-rounds_count s S U ms n total c r I (next n₁ total₁ passed T U₁ rounds turn) alive =
-    let F : Falls s S T = rounds_fall s S T ms n₁ total₁ c r I rounds in
-    let K : Turned s T U passed = round_turns s T U (onward ms total₁) passed (onward-clock ms total₁) r F.inv turn in
-    go K (rounds_count s S T ms n₁ total₁ c r I rounds (alive_before s T U K.falls alive)) (K.either alive)
+rounds_count : (s : Settings) (ms : ℕ) (S T : System) (n total : ℕ) → IsClock ms → InRange s → Inv s S → Rounds ms S n total T → Alive T → Empty T ⊎ (Φ T + n ≤ Φ S)
+rounds_count s ms S T n total c r I begin alive = inr (omega arith)
+rounds_count s ms S U n total c r I (next n₁ total₁ passed T U₁ rounds turn) alive =
+    let F : Falls s S T = rounds_fall s ms S T n₁ total₁ c r I rounds in
+    let K : Turned s T U passed = round_turns s (onward ms total₁) T U passed (onward-clock ms total₁) r F.inv turn in
+    go K (rounds_count s ms S T n₁ total₁ c r I rounds (alive_before s T U K.falls alive)) (K.either alive)
   where
     go : Turned s T U passed → Empty T ⊎ (Φ T + n₁ ≤ Φ S) → ((passed ≡ 0) × Empty U) ⊎ (Φ U + 1 ≤ Φ T) → Empty U ⊎ (Φ U + suc n₁ ≤ Φ S)
     go K (inl e) y = inl (empty_falls s T U K.falls e)
@@ -377,10 +383,10 @@ pub within_23 : WithinRounds 23 true_calls
 within_23 s S T ms n total m c h k alive =
     let r : InRange s = moment_range s S m in
     let I : Inv s S = moment_kept s S m in
-    go r I (rounds_count s S T ms n total c r I k alive)
+    go r I (rounds_count s ms S T n total c r I k alive)
   where
     go : InRange s → Inv s S → Empty T ⊎ (Φ T + n ≤ Φ S) → Through T
-    go r I (inl e) = empty_through s T (rounds_fall s S T ms n total c r I k).inv e
+    go r I (inl e) = empty_through s T (rounds_fall s ms S T n total c r I k).inv e
     go r I (inr w) = absurd (omega (arith, Φ-bound s S r I))
 
 pub within_24 : Within24 true_calls

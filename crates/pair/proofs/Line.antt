@@ -33,13 +33,13 @@ module _ (format : Format) (t : List (List ℕ)) where
 
   pub line_taken : {h b e : ℕ} (q : List (List ℕ)) → Line format t h b e q → h ≤ length t
   line_taken [] (clear p r) = p
-  line_taken (frame ∷ q) (data-next f x len m p s u v w) = omega (arith, line_taken q w)
+  line_taken {h = h} (frame ∷ q) (data-next f x len m p s u v w) = omega (arith, line_taken {h = max h (suc f)} q w)
   line_taken (frame ∷ q) (ack-next x m v w) = line_taken q w
   line_taken (frame ∷ q) (idle-next m w) = line_taken q w
 
   pub line_freed : {h b e : ℕ} (q : List (List ℕ)) → Line format t h b e q → b ≤ e
   line_freed [] (clear p r) = r
-  line_freed (frame ∷ q) (data-next f x len m p s u v w) = omega (arith, line_freed q w)
+  line_freed {h = h} (frame ∷ q) (data-next f x len m p s u v w) = omega (arith, line_freed {h = max h (suc f)} q w)
   line_freed (frame ∷ q) (ack-next x m v w) = omega (arith, line_freed q w)
   line_freed (frame ∷ q) (idle-next m w) = line_freed q w
 
@@ -62,9 +62,10 @@ module _ (format : Format) (t : List (List ℕ)) where
   damage-idle frame (inr m) = rw m by_sum
 
   pub line_harm : {h b e : ℕ} (q r : List (List ℕ)) → Harm format q r → Line format t h b e q → Line format t h b e r
+  line_harm [] r harm w = elim harm [ ]
   line_harm (frame ∷ q) r (lost frame₁ q₁) w = line_tail frame q w
   line_harm (frame ∷ q) (other ∷ r) (damaged frame₁ other₁ q₁ m) w = idle-next (damage-idle other m) (line_tail frame q w)
-  line_harm (frame ∷ q) (frame₂ ∷ r) (later frame₁ q₁ r₁ k) (data-next f x len m p s u v w) = data-next f x len m p s u v (line_harm q r k w)
+  line_harm {h} (frame ∷ q) (frame₂ ∷ r) (later frame₁ q₁ r₁ k) (data-next f x len m p s u v w) = data-next f x len m p s u v (line_harm {h = max h (suc f)} q r k w)
   line_harm (frame ∷ q) (frame₂ ∷ r) (later frame₁ q₁ r₁ k) (ack-next x m v w) = ack-next x m v (line_harm q r k w)
   line_harm (frame ∷ q) (frame₂ ∷ r) (later frame₁ q₁ r₁ k) (idle-next m w) = idle-next m (line_harm q r k w)
 
@@ -74,7 +75,7 @@ module _ (format : Format) (t : List (List ℕ)) where
   line-end : {h b e : ℕ} (frame : List ℕ) (q : List (List ℕ)) → ((h b : ℕ) → h ≤ length t → b ≤ e → Line format t h b e (frame ∷ [])) → Line format t h b e q
       → Line format t h b e (q ++ (frame ∷ []))
   line-end {h} {b} frame [] alone (clear p r) = alone h b p r
-  line-end frame (other ∷ q) alone (data-next f x len m p s u v w) = data-next f x len m p s u v (line-end frame q alone w)
+  line-end {h} frame (other ∷ q) alone (data-next f x len m p s u v w) = data-next f x len m p s u v (line-end {h = max h (suc f)} frame q alone w)
   line-end frame (other ∷ q) alone (ack-next x m v w) = ack-next x m v (line-end frame q alone w)
   line-end frame (other ∷ q) alone (idle-next m w) = idle-next m (line-end frame q alone w)
 
@@ -93,7 +94,7 @@ module _ (format : Format) (t : List (List ℕ)) where
 -- the other end takes one more packet
 pub line_more : (format : Format) (t : List (List ℕ)) (packet : List ℕ) {h b e : ℕ} (q : List (List ℕ)) → Line format t h b e q → Line format (t ++ (packet ∷ [])) h b e q
 line_more format t packet {h} [] (clear p r) = clear {h = h} (rw length-append (omega arith)) r
-line_more format t packet (frame ∷ q) (data-next f x len m p s u v w) =
-    data-next f x len m (p ∙ sym (get_or-append t (packet ∷ []) [] f (omega (arith, line_taken format t q w)))) s u v (line_more format t packet q w)
+line_more format t packet {h} (frame ∷ q) (data-next f x len m p s u v w) =
+    data-next f x len m (p ∙ sym (get_or-append t (packet ∷ []) [] f (omega (arith, line_taken format t q w)))) s u v (line_more format t packet {h = max h (suc f)} q w)
 line_more format t packet (frame ∷ q) (ack-next x m v w) = ack-next x m v (line_more format t packet q w)
 line_more format t packet (frame ∷ q) (idle-next m w) = idle-next m (line_more format t packet q w)

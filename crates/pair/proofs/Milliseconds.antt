@@ -53,19 +53,19 @@ passes_short s S ms passed r I c (moves passed₁ e k) =
     go w true q = absurd (true≢false (sym w.holds ∙ k w.after (ltb-true w.after passed q)))
     go w false q = omega (arith, ltb-false w.after passed q, w.within)
 
-round_short : (s : Settings) (S T : System) (ms passed : ℕ) → IsClock ms → InRange s → Inv s S → Round ms S passed T → passed ≤ s.transtimeout
-round_short s S W ms passed c r I (other-first S₁ W₁ passed₁ k) = round_short s (swap S) (swap W) ms passed c r (inv_swap s S I) k
-round_short s S W ms passed c r I (round S₁ T U W₁ passed₁ carries no_here no_there p looks_here looks_there) =
-    passes_short s T ms passed r (carries_falls s S T ms c r I carries).inv c p
+round_short : (s : Settings) (ms : ℕ) (S T : System) (passed : ℕ) → IsClock ms → InRange s → Inv s S → Round ms S passed T → passed ≤ s.transtimeout
+round_short s ms S W passed c r I (other-first S₁ W₁ passed₁ k) = round_short s ms (swap S) (swap W) passed c r (inv_swap s S I) k
+round_short s ms S W passed c r I (round S₁ T U W₁ passed₁ carries no_here no_there p looks_here looks_there) =
+    passes_short s T ms passed r (carries_falls s ms S T c r I carries).inv c p
 
 -- each move of the clock is paid for by the measure
-paid : (s : Settings) (S T : System) (ms n total : ℕ) → IsClock ms → InRange s → Inv s S → Rounds ms S n total T → Alive T → Φ T * s.transtimeout + total ≤ Φ S * s.transtimeout
-paid s S T ms n total c r I begin alive = omega arith
-paid s S U ms n total c r I (next n₁ total₁ passed T U₁ rounds turn) alive =
-    let F : Falls s S T = rounds_fall s S T ms n₁ total₁ c r I rounds in
-    let K : Turned s T U passed = round_turns s T U (onward ms total₁) passed (onward-clock ms total₁) r F.inv turn in
-    let short : passed ≤ s.transtimeout = round_short s T U (onward ms total₁) passed (onward-clock ms total₁) r F.inv turn in
-    let before : Φ T * s.transtimeout + total₁ ≤ Φ S * s.transtimeout = paid s S T ms n₁ total₁ c r I rounds (alive_before s T U K.falls alive) in
+paid : (s : Settings) (ms : ℕ) (S T : System) (n total : ℕ) → IsClock ms → InRange s → Inv s S → Rounds ms S n total T → Alive T → Φ T * s.transtimeout + total ≤ Φ S * s.transtimeout
+paid s ms S T n total c r I begin alive = omega arith
+paid s ms S U n total c r I (next n₁ total₁ passed T U₁ rounds turn) alive =
+    let F : Falls s S T = rounds_fall s ms S T n₁ total₁ c r I rounds in
+    let K : Turned s T U passed = round_turns s (onward ms total₁) T U passed (onward-clock ms total₁) r F.inv turn in
+    let short : passed ≤ s.transtimeout = round_short s (onward ms total₁) T U passed (onward-clock ms total₁) r F.inv turn in
+    let before : Φ T * s.transtimeout + total₁ ≤ Φ S * s.transtimeout = paid s ms S T n₁ total₁ c r I rounds (alive_before s T U K.falls alive) in
     go short before K.falls.low (K.either alive)
   where
     go : passed ≤ s.transtimeout → Φ T * s.transtimeout + total₁ ≤ Φ S * s.transtimeout → Φ U ≤ Φ T → ((passed ≡ 0) × Empty U) ⊎ (Φ U + 1 ≤ Φ T) → Φ U * s.transtimeout + (total₁ + passed) ≤ Φ S * s.transtimeout
@@ -79,4 +79,4 @@ pub in_milliseconds : InMilliseconds true_calls
 in_milliseconds s S T ms n total m c k alive =
     let r : InRange s = moment_range s S m in
     let I : Inv s S = moment_kept s S m in
-    omega (arith, paid s S T ms n total c r I k alive, mul-le-mul_right s.transtimeout (Φ-bound s S r I))
+    omega (arith, paid s ms S T n total c r I k alive, mul-le-mul_right s.transtimeout (Φ-bound s S r I))

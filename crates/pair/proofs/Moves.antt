@@ -12,7 +12,7 @@ use Rattle.base.specs.Buffer.{put}
 use Rattle.base.proofs.Put.{put-length}
 use Rattle.frame.specs.declared.Format.{Format}
 use Rattle.frame.specs.declared.Heard.{Heard}
-use Rattle.frame.specs.declared.Heard.TheVariants.{Size, Sum, Ack, Nak, Data}
+use Rattle.frame.specs.declared.Heard.TheVariants.{Size, Sum, Code, ControlSize, Length, Reset, Ack, Nak, Data}
 use Rattle.frame.specs.Steps.{heard, packet_in, acknowledged_in, refusal_of}
 use Rattle.frame.specs.Bytes.{data_frame}
 use Rattle.frame.proofs.Writing.{frame_of-length}
@@ -71,6 +71,12 @@ idle_kept s S frame received rest ms (Nak k) c r room I small (a-nak k₁) = go 
         repeatable_holds (λ n. Inv s (taking S received rest (concluded (sends_repeat l S.here.slots frame ms n) done 0 S.here.slots))) l k
         (well_formed_facts l I.here.sound.formed).next small e (λ j wait may. concluded-repeat s S j ms frame rest done c r room I wait may)
     go false e = concluded_nothing s S frame rest done I
+idle_kept s S frame received rest ms Code c r room I small idle = elim idle [ ]
+idle_kept s S frame received rest ms ControlSize c r room I small idle = elim idle [ ]
+idle_kept s S frame received rest ms Length c r room I small idle = elim idle [ ]
+idle_kept s S frame received rest ms Reset c r room I small idle = elim idle [ ]
+idle_kept s S frame received rest ms (Ack k) c r room I small idle = elim idle [ ]
+idle_kept s S frame received rest ms (Data n x k len) c r room I small idle = elim idle [ ]
 
 -- data that is not the expected one
 pass_kept : (s : Settings) (S : System) (frame received : List ℕ) (rest : List (List ℕ)) (x : ℕ) → InRange s → s.format.d ≤ length frame

@@ -140,10 +140,10 @@ module _ (answer : ℕ) (no : answer ≡ done → ⊥) where
       ap swap (looks-same _ (swap U) (swap W) looks_there) ∙ looks-same _ T U looks_here ∙ carries_same ms S T no_here no_there carries
   round_same ms passed S W no_here no_there (other-first S₁ W₁ passed₁ k) = ap swap (round_same ms passed (swap S) (swap W) no_there no_here k)
 
-  rounds-same : (ms n total : ℕ) (S T : System) → S.here.queue ≡ [] → S.there.queue ≡ [] → Rounds (refusing_all answer) ms S n total T → T ≡ S
-  rounds-same ms n total S T no_here no_there begin = refl
-  rounds-same ms n total S U no_here no_there (next n₁ total₁ passed T U₁ rounds turn) =
-      let before : T ≡ S = rounds-same ms n₁ total₁ S T no_here no_there rounds in
+  rounds-same : (ms : ℕ) (S : System) (n total : ℕ) (T : System) → S.here.queue ≡ [] → S.there.queue ≡ [] → Rounds (refusing_all answer) ms S n total T → T ≡ S
+  rounds-same ms S n total T no_here no_there begin = refl
+  rounds-same ms S n total U no_here no_there (next n₁ total₁ passed T U₁ rounds turn) =
+      let before : T ≡ S = rounds-same ms S n₁ total₁ T no_here no_there rounds in
       round_same _ passed T U (ap (λ (X : System). X.here.queue) before ∙ no_here) (ap (λ (X : System). X.there.queue) before ∙ no_there) turn ∙ before
 
   start_first : (s : Settings) (S : System) → Begun s S → FirstSoManyOf S.there.delivered S.here.taken × FirstSoManyOf S.here.delivered S.there.taken
@@ -170,7 +170,7 @@ module _ (answer : ℕ) (no : answer ≡ done → ⊥) where
   refuses = record {
     first = λ s S m. start_first s S (begun-moment s S m);
     within = λ s S T ms n total m c h k alive. let b : Begun s S = begun-moment s S m in
-        subst Through (sym (rounds-same ms n total S T (ap (λ (X : System). X.here.queue) b.same) (ap (λ (X : System). X.there.queue) b.same) k)) (start-through s S b);
+        subst Through (sym (rounds-same ms S n total T (ap (λ (X : System). X.here.queue) b.same) (ap (λ (X : System). X.there.queue) b.same) k)) (start-through s S b);
     exist = λ s S ms n m c. start-played s S ms n c (begun-moment s S m);
   }
 
