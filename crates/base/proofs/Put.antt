@@ -1,4 +1,4 @@
--- Laws of `put`, for whoever writes into a lent buffer, and of one element stored. Assumes nothing.
+-- Laws of `put`, for whoever writes into a lent buffer, and of one element stored.
 use Rattle.std.proofs.Common.{◌≡◌, ℕ, ◌+◌, ◌-◌, ◌≤◌, Bool, true, false, eqb, ltb, List, [], ◌++◌, length, get_or, take, drop, set, sym, refl, ap, ◌∙◌, subst, append_assoc, append-nil, add_assoc, zero-add, arith, length-append, length-drop, take-append-drop, drop_of_length-le, length-take, length-take-le, get_or-set_other, get_or-set_same, take-take, drop-drop, take_at, take-add, drop_at, ltb-false, ltb-true, eqb-true}
 use borrow.Author.Tests.{eqb-false}
 use lib.Seq.{take-length, drop-append-add, drop-append-le, take-append-le, take-append_seam, sets, sets-eq, set_out}

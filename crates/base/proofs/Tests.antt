@@ -1,4 +1,4 @@
--- What a test that came out true or false says. Assumes nothing.
+-- What a test that came out true or false says.
 use Rattle.std.proofs.Common.{◌≡◌, ℕ, ◌<◌, ◌≤◌, Bool, true, false, cond, ◌&&◌, ◌||◌, eqb, leb, sym, refl, ◌∙◌, arith, eq-eqb, ne_eqb, eqb-true, le-leb, leb-false, leb-true}
 use borrow.Author.Tests.{lt-leb}
 use Rattle.base.specs.Range.{within}

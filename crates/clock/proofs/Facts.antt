@@ -1,9 +1,5 @@
--- What looking at the clock cites. Assumes nothing.
-use mathlib.Core.Path.{◌≡◌}
-use mathlib.Core.Bool.{true}
-use Prim.Native.Nat.{ℕ, ◌<◌}
-use borrow.Author.Tests.{ltb-true}
-use lib.Dec.{ltb}
+-- What looking at the clock cites.
+use Rattle.std.proofs.Common.{◌≡◌, true, ℕ, ◌<◌, ltb-true, ltb}
 use Rattle.base.proofs.Tests.{and_left}
 use Rattle.state.specs.declared.Link.{Link}
 use Rattle.state.specs.State.{sent_before, start_of}

@@ -1,8 +1,5 @@
--- Looking at the clock and acknowledging keep an end's state sound. Assumes nothing.
-use mathlib.Core.Bool.{Bool, true, false}
-use mathlib.Core.List.{List}
-use Prim.Native.Nat.{ℕ}
-use lib.ListN.{length}
+-- Looking at the clock and acknowledging keep an end's state sound.
+use Rattle.std.proofs.Common.{Bool, true, false, List, ℕ, length}
 use Rattle.base.specs.Answer.{done}
 use Rattle.base.proofs.Tests.{cond_cases}
 use Rattle.state.specs.declared.Link.{Link}

@@ -1,4 +1,4 @@
--- Each row of the table, once for both orders: what differs is how the bytes of FCS stand. Assumes nothing.
+-- Each row of the table, once for both orders: what differs is how the bytes of FCS stand.
 use mathlib.Core.Path.{◌≡◌, refl, ap, sym, ◌∙◌}
 use mathlib.Core.Bool.{true, false}
 use mathlib.Core.List.{List, [], ◌∷◌, ◌++◌}

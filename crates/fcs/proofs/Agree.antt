@@ -1,13 +1,7 @@
 -- A table is tested once, at each entry, by computing; the test gives its rule, and the rule gives the step from every seed.
--- Assumes nothing.
-use mathlib.Core.Path.{◌≡◌, sym, ap, ◌∙◌}
-use mathlib.Core.Bool.{Bool, true, false, ◌&&◌}
-use mathlib.Core.List.{List, [], ◌∷◌}
-use Prim.Native.Nat.{ℕ, zero, suc, ◌+◌, ◌/◌, ◌^◌, ◌<◌}
-use native.Mathlib.Nat.{add-zero, zero-add, add-suc, suc-add, le_of_suc-le-suc, not-suc-le-zero}
-use lib.Dec.{T, eqb, eqb→eq}
-use lib.ListN.{length, get_or}
-use lib.Bits.{bit_and, bit_xor, and_mask, mask_lt}
+--
+use Rattle.std.proofs.Common.{◌≡◌, sym, ap, ◌∙◌, Bool, true, false, ◌&&◌, List, [], ◌∷◌, ℕ, zero, suc, ◌+◌, ◌/◌, ◌^◌, ◌<◌, add-zero, zero-add, add-suc, suc-add, le_of_suc-le-suc, not-suc-le-zero, T, eqb, eqb→eq, length, get_or, bit_and, bit_xor}
+use lib.Bits.{and_mask, mask_lt}
 use Rattle.fcs.specs.Checksum.{byte_step, Agrees}
 use Rattle.fcs.proofs.Linear.{byte_step_low}
 

@@ -1,13 +1,6 @@
--- What the crates above may cite of the checksum: it is below 65,536, and it goes on from one list to the next. Assumes nothing.
-use mathlib.Core.Path.{◌≡◌, refl}
-use mathlib.Core.Bool.{Bool, true, false}
-use mathlib.Core.List.{List, [], ◌∷◌, ◌++◌}
-use Prim.Native.Nat.{ℕ, zero, suc, ◌+◌, ◌/◌, ◌%◌, ◌^◌, ◌<◌}
-use native.Mathlib.Numerals.{add-one}
-use native.Mathlib.Omega.{arith}
-use lib.Dec.{eqb, lit<}
-use lib.ListN.{length, drop, get_or}
-use lib.Seq.{drop-cons, drop-length}
+-- What the crates above may cite of the checksum: it is below 65,536, and it goes on from one list to the next.
+use Rattle.std.proofs.Common.{◌≡◌, refl, Bool, true, false, List, [], ◌∷◌, ◌++◌, ℕ, zero, suc, ◌+◌, ◌/◌, ◌%◌, ◌^◌, ◌<◌, add-one, arith, eqb, lit<, length, drop, get_or, drop-cons}
+use lib.Seq.{drop-length}
 use lib.Bits.{xor_lt}
 use Rattle.fcs.specs.Checksum.{combine, bit_step, bit_steps, byte_step, checksum_from, checksum_of}
 

@@ -1,14 +1,10 @@
 -- The bit rule is linear over exclusive-or, so a step from any seed is one from 0, and the seed's high byte comes out as it went in.
--- Assumes nothing.
-use mathlib.Core.Path.{◌≡◌, refl, sym, ap, ap₂, ◌∙◌}
-use Prim.Native.Nat.{ℕ, zero, suc, ◌*◌, ◌/◌, ◌%◌, ◌^◌, ◌<◌}
-use native.Mathlib.Nat.{mod-lt, div-eq_of_lt}
-use native.Mathlib.Numerals.{add-one}
-use native.Mathlib.Omega.{arith}
-use lib.Dec.{eqb}
+--
+use Rattle.std.proofs.Common.{◌≡◌, refl, sym, ap, ap₂, ◌∙◌, ℕ, zero, suc, ◌*◌, ◌/◌, ◌%◌, ◌^◌, ◌<◌, mod-lt, add-one, arith, eqb, pow_pos, shr_lt, bit_xor}
+use native.Mathlib.Nat.{div-eq_of_lt}
 use lib.Arith.{lt-one}
-use lib.Pow.{pow_pos, split, shr_lt}
-use lib.Bits.{bit_xor, xor_shr, xor_mod, xor_comm, xor_zero_r, xor_shifted, shifted_half, shifted_even}
+use lib.Pow.{split}
+use lib.Bits.{xor_shr, xor_mod, xor_comm, xor_zero_r, xor_shifted, shifted_half, shifted_even}
 use Rattle.fcs.specs.Checksum.{combine, bit_step, bit_steps, byte_step}
 use Rattle.fcs.proofs.Xor.{bit, odd_lt, xor_right, xor_four}
 

@@ -1,11 +1,8 @@
--- Exclusive-or is associative, which the library lacks. Assumes nothing.
-use mathlib.Core.Path.{◌≡◌, refl, sym, ap, ap₂, ◌∙◌}
-use Prim.Native.Nat.{ℕ, zero, suc, ◌+◌, ◌*◌, ◌/◌, ◌%◌, ◌<◌}
-use native.Mathlib.Nat.{mod-lt, zero-lt-suc}
-use native.Mathlib.Omega.{arith}
+-- Exclusive-or is associative, which the library lacks.
+use Rattle.std.proofs.Common.{◌≡◌, refl, sym, ap, ap₂, ◌∙◌, ℕ, zero, suc, ◌+◌, ◌*◌, ◌/◌, ◌%◌, ◌<◌, mod-lt, zero-lt-suc, arith, bit_xor}
 use lib.Arith.{bin_ind}
 use lib.Pow.{split}
-use lib.Bits.{bit_xor, xor_block, xor_shr, xor_mod, xor_comm}
+use lib.Bits.{xor_block, xor_shr, xor_mod, xor_comm}
 
 -- what holds at 0 and at 1 holds of a bit
 pub bit : (P : ℕ → Type 0) → P 0 → P 1 → (x : ℕ) → x < 2 → P x

@@ -1,14 +1,8 @@
--- What hearing cites, and that what was written is heard. Assumes nothing.
-use mathlib.Core.Path.{◌≡◌, refl, ap, ◌∙◌}
-use mathlib.Core.Bool.{Bool, true, false, true≢false, not, ◌&&◌, ◌||◌, and-true}
-use mathlib.Core.List.{List, [], ◌∷◌, ◌++◌}
-use Prim.Native.Nat.{ℕ, zero, suc, ◌+◌, ◌-◌, ◌*◌, ◌/◌, ◌%◌, ◌≤◌}
-use native.Mathlib.Numerals.{add-one}
-use native.Mathlib.Omega.{arith}
-use borrow.Author.Tests.{eqb-true, not-true, not-false, le-ltb, le-leb, lt-leb, eq-eqb, ne_eqb}
-use lib.ListN.{length, take, drop, get_or}
-use lib.Seq.{drop-cons, take-append_seam, drop-append_seam}
-use lib.Dec.{eqb, ltb}
+-- What hearing cites, and that what was written is heard.
+use Rattle.std.proofs.Common.{◌≡◌, refl, ap, ◌∙◌, Bool, true, false, true≢false, not, ◌&&◌, ◌||◌, List, [], ◌∷◌, ◌++◌, ℕ, zero, suc, ◌+◌, ◌-◌, ◌*◌, ◌/◌, ◌%◌, ◌≤◌, add-one, arith, eqb-true, le-ltb, le-leb, eq-eqb, ne_eqb, length, take, drop, get_or, drop-cons, eqb, ltb}
+use mathlib.Core.Bool.{and-true}
+use borrow.Author.Tests.{not-true, not-false, lt-leb}
+use lib.Seq.{take-append_seam, drop-append_seam}
 use Rattle.base.proofs.Tests.{or_right_false, cond_cases}
 use Rattle.fcs.specs.Checksum.{checksum_of}
 use Rattle.frame.specs.declared.Format.{Format}

@@ -1,14 +1,6 @@
--- What the order of FCS changes. Assumes nothing.
-use mathlib.Core.Path.{◌≡◌, refl, sym, ap, ◌∙◌}
-use mathlib.Core.Bool.{Bool, true, false, ◌&&◌}
-use mathlib.Core.Logic.{◌≢◌}
-use mathlib.Core.List.{List, [], ◌∷◌, ◌++◌, reverse}
-use Prim.Native.Nat.{ℕ, ◌+◌, ◌-◌, ◌/◌, ◌%◌, ◌≤◌, ◌<◌}
-use native.Mathlib.Omega.{arith}
-use borrow.Author.Tests.{ltb-false, eqb-true, ne_eqb}
-use lib.ListN.{length, take, drop, get_or, length-append, length-drop, length-reverse, take-append-drop, get_or-append}
-use lib.Seq.{length-take-le, take_all, take_at, drop_at, get_or-take}
-use lib.Dec.{eqb, ltb}
+-- What the order of FCS changes.
+use Rattle.std.proofs.Common.{◌≡◌, refl, sym, ap, ◌∙◌, Bool, true, false, ◌&&◌, ◌≢◌, List, [], ◌∷◌, ◌++◌, reverse, ℕ, ◌+◌, ◌-◌, ◌/◌, ◌%◌, ◌≤◌, ◌<◌, arith, ltb-false, eqb-true, ne_eqb, length, take, drop, get_or, length-append, length-drop, take-append-drop, length-take-le, take_all, take_at, drop_at, get_or-take, eqb, ltb}
+use lib.ListN.{length-reverse, get_or-append}
 use Rattle.base.proofs.Tests.{and_left, and_right, cond_cases}
 use Rattle.fcs.specs.Checksum.{checksum_of}
 use Rattle.frame.specs.declared.Format.{Format}

@@ -1,12 +1,7 @@
--- What a refusal's number tells: which refusal it was, and what is so of the frame. Assumes nothing.
-use mathlib.Core.Path.{◌≡◌, refl, ap, sym, ◌∙◌}
-use mathlib.Core.Bool.{Bool, true, false, cond, not, ◌||◌, or-true}
-use mathlib.Core.Logic.{◌⊎◌, inl, inr, ◌≢◌}
-use mathlib.Core.List.{List}
-use Prim.Native.Nat.{ℕ, ◌-◌, ◌<◌}
-use borrow.Author.Tests.{ltb-true, eqb-true, eqb-false, not-true, lt-ltb, le-ltb, eq-eqb, ne_eqb}
-use lib.ListN.{length}
-use lib.Dec.{eqb, ltb}
+-- What a refusal's number tells: which refusal it was, and what is so of the frame.
+use Rattle.std.proofs.Common.{◌≡◌, refl, ap, sym, ◌∙◌, Bool, true, false, cond, not, ◌||◌, ◌⊎◌, inl, inr, ◌≢◌, List, ℕ, ◌-◌, ◌<◌, ltb-true, eqb-true, lt-ltb, le-ltb, eq-eqb, ne_eqb, length, eqb, ltb}
+use mathlib.Core.Bool.{or-true}
+use borrow.Author.Tests.{eqb-false, not-true}
 use Rattle.base.specs.Answer.{done, frame_sum, unused_code, control_size, frame_size}
 use Rattle.base.proofs.Tests.{and_left, and_right}
 use Rattle.frame.specs.declared.Format.{Format}

@@ -1,11 +1,5 @@
--- What the writers cite: stores and puts, one behind the other, are a frame. Assumes nothing.
-use mathlib.Core.Path.{◌≡◌, refl, sym, ap, ◌∙◌}
-use mathlib.Core.List.{List, ◌∷◌, ◌++◌}
-use Prim.Native.Nat.{ℕ, ◌+◌, ◌≤◌}
-use native.Mathlib.Numerals.{add-one}
-use native.Mathlib.Omega.{arith}
-use lib.ListN.{length, take, set, get_or, length-append}
-use lib.Seq.{length-take-le}
+-- What the writers cite: stores and puts, one behind the other, are a frame.
+use Rattle.std.proofs.Common.{◌≡◌, refl, sym, ap, ◌∙◌, List, ◌∷◌, ◌++◌, ℕ, ◌+◌, ◌≤◌, add-one, arith, length, take, set, get_or, length-append, length-take-le}
 use Rattle.base.specs.Buffer.{put}
 use Rattle.base.proofs.Put.{put-take, put-put, put_sets, put_front, put_over}
 use Rattle.fcs.specs.Checksum.{checksum_of}

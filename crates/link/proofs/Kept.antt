@@ -1,9 +1,5 @@
--- The promises of specs/Promises.antt. Assumes nothing.
-use mathlib.Core.Path.{◌≡◌, refl, sym, ap, ◌∙◌}
-use mathlib.Core.List.{List}
-use Prim.Native.Nat.{ℕ}
-use native.Mathlib.Omega.{arith}
-use lib.ListN.{length}
+-- The promises of specs/Promises.antt.
+use Rattle.std.proofs.Common.{◌≡◌, refl, sym, ap, ◌∙◌, List, ℕ, arith, length}
 use Rattle.base.specs.Answer.{done}
 use Rattle.frame.specs.Bytes.{ack_frame}
 use Rattle.frame.proofs.Hearing.{ack_heard}

@@ -1,12 +1,6 @@
--- The wrong ends of specs/FalseEnds.antt, each tried at one input or two, of numbers and bytes that code can hold, by computing. Assumes nothing.
-use mathlib.Core.Path.{◌≡◌, refl, ap, sym, ◌∙◌}
-use mathlib.Core.Logic.{◌≢◌}
-use mathlib.Core.Bool.{Bool, true, false, cond}
-use mathlib.Core.List.{List, [], ◌∷◌, ◌++◌}
-use Prim.Native.Nat.{ℕ, suc, ◌+◌, ◌-◌, ◌%◌, ◌≤◌}
-use native.Mathlib.Omega.{arith}
-use borrow.Author.Tests.{eqb-false, eq-eqb}
-use lib.ListN.{length, get_or, replicate}
+-- The wrong ends of specs/FalseEnds.antt, each tried at one input or two, of numbers and bytes that code can hold, by computing.
+use Rattle.std.proofs.Common.{◌≡◌, refl, ap, sym, ◌∙◌, ◌≢◌, Bool, true, false, cond, List, [], ◌∷◌, ◌++◌, ℕ, suc, ◌+◌, ◌-◌, ◌%◌, ◌≤◌, arith, eq-eqb, length, get_or, replicate}
+use borrow.Author.Tests.{eqb-false}
 use Rattle.base.specs.Answer.{frame_sum, unused_code, frame_size, frame_length}
 use Rattle.base.specs.Buffer.{put}
 use Rattle.fcs.specs.Checksum.{checksum_of}

@@ -1,8 +1,5 @@
--- A history told by its steps leads from moment to moment, whatever the link. Assumes nothing.
-use mathlib.Core.Path.{◌≡◌, refl, sym, subst}
-use mathlib.Core.List.{List, [], ◌∷◌}
-use Prim.Native.Nat.{ℕ, zero, suc}
-use native.Mathlib.Omega.{arith}
+-- A history told by its steps leads from moment to moment, whatever the link.
+use Rattle.std.proofs.Common.{◌≡◌, refl, sym, subst, List, [], ◌∷◌, ℕ, zero, suc, arith}
 use Rattle.state.specs.declared.Settings.{Settings}
 use Rattle.state.specs.Timer.{onward}
 use Rattle.pair.specs.System.{Calls, System, swap, lost, IsClock, Move, submit, take_head, look, acknowledge, harm, Moment, here, there}

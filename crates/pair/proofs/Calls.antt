@@ -1,11 +1,5 @@
--- Each call of an end keeps what holds at every moment. Assumes nothing.
-use mathlib.Core.Path.{◌≡◌, refl, sym, ap, subst, ◌∙◌}
-use mathlib.Core.Bool.{Bool, true, false, cond}
-use mathlib.Core.List.{List, [], ◌∷◌, append-nil}
-use Prim.Native.Nat.{ℕ, ◌%◌, ◌+◌, ◌-◌, ◌*◌, ◌≤◌, ◌<◌}
-use native.Mathlib.Omega.{arith}
-use borrow.Author.Tests.{ne_eqb}
-use lib.ListN.{length, get_or, set, length-take, length-drop}
+-- Each call of an end keeps what holds at every moment.
+use Rattle.std.proofs.Common.{◌≡◌, refl, sym, ap, subst, ◌∙◌, Bool, true, false, cond, List, [], ◌∷◌, append-nil, ℕ, ◌%◌, ◌+◌, ◌-◌, ◌*◌, ◌≤◌, ◌<◌, arith, ne_eqb, length, get_or, set, length-take, length-drop}
 use Rattle.base.proofs.Put.{put-take}
 use Rattle.frame.specs.declared.Format.{Format}
 use Rattle.frame.specs.declared.Heard.{Heard}

@@ -1,12 +1,6 @@
--- Rounds can always be played. Assumes nothing.
-use mathlib.Core.Path.{◌≡◌, refl, sym, ap, subst}
-use mathlib.Core.Bool.{Bool, true, false, cond, not, ◌&&◌}
-use mathlib.Core.List.{List, [], ◌∷◌, ◌++◌}
-use Prim.Native.Nat.{ℕ, zero, suc, ◌%◌, ◌+◌, ◌*◌, ◌≤◌, ◌<◌}
-use native.Mathlib.Omega.{arith}
-use borrow.Author.Tests.{eqb-true, eqb-false}
-use lib.ListN.{length}
-use lib.Dec.{eqb, ltb}
+-- Rounds can always be played.
+use Rattle.std.proofs.Common.{◌≡◌, refl, sym, ap, subst, Bool, true, false, cond, not, ◌&&◌, List, [], ◌∷◌, ◌++◌, ℕ, zero, suc, ◌%◌, ◌+◌, ◌*◌, ◌≤◌, ◌<◌, arith, eqb-true, length, eqb, ltb}
+use borrow.Author.Tests.{eqb-false}
 use Rattle.base.specs.Answer.{done, out_of_range, link_lost, unexpected, short_buffer}
 use Rattle.base.proofs.Tests.{cond_cases}
 use Rattle.frame.specs.declared.Format.{Format}

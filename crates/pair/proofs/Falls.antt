@@ -1,14 +1,6 @@
--- Twenty-four rounds: a measure that nothing in a quiet continuation raises, and that each served timer lowers. Assumes nothing.
-use mathlib.Core.Path.{◌≡◌, refl, sym, ap, subst, ◌∙◌}
-use mathlib.Core.Bool.{Bool, true, false, true≢false, cond, not, ◌&&◌, ◌||◌, and-true}
-use mathlib.Core.List.{List, [], ◌∷◌}
-use mathlib.Core.Logic.{◌⊎◌, inl, inr}
-use Prim.Native.Nat.{ℕ, suc, ◌%◌, ◌+◌, ◌-◌, ◌≤◌}
-use native.Mathlib.Omega.{arith}
-use borrow.Author.Tests.{ltb-false, ne_eqb, eq-eqb}
-use lib.ListN.{length, length-append}
-use lib.Seq.{take_all}
-use lib.Dec.{eqb, ltb}
+-- Twenty-four rounds: a measure that nothing in a quiet continuation raises, and that each served timer lowers.
+use Rattle.std.proofs.Common.{◌≡◌, refl, sym, ap, subst, ◌∙◌, Bool, true, false, true≢false, cond, not, ◌&&◌, ◌||◌, List, [], ◌∷◌, ◌⊎◌, inl, inr, ℕ, suc, ◌%◌, ◌+◌, ◌-◌, ◌≤◌, arith, ltb-false, ne_eqb, eq-eqb, length, length-append, take_all, eqb, ltb}
+use mathlib.Core.Bool.{and-true}
 use Rattle.base.specs.Answer.{done}
 use Rattle.base.proofs.Tests.{and_right, or_left_false, or_right_false}
 use Rattle.frame.specs.declared.Heard.{Heard}

@@ -1,13 +1,8 @@
--- What holds at every moment, and how each small change keeps it. Assumes nothing.
-use mathlib.Core.Path.{◌≡◌, refl, sym, ap, subst, ◌∙◌}
-use mathlib.Core.Bool.{Bool, true, false}
-use mathlib.Core.List.{List, [], ◌∷◌, ◌++◌}
-use Prim.Native.Nat.{ℕ, zero, suc, ◌%◌, ◌+◌, ◌-◌, ◌*◌, ◌≤◌, ◌<◌}
-use native.Mathlib.Omega.{arith}
-use borrow.Author.Tests.{ltb-false, eqb-true, eqb-false}
-use lib.ListN.{length, take, get_or, set, length-append, get_or-append}
-use lib.Seq.{take-suc, take-append-le, get_or-append_seam}
-use lib.Dec.{eqb}
+-- What holds at every moment, and how each small change keeps it.
+use Rattle.std.proofs.Common.{◌≡◌, refl, sym, ap, subst, ◌∙◌, Bool, true, false, List, [], ◌∷◌, ◌++◌, ℕ, zero, suc, ◌%◌, ◌+◌, ◌-◌, ◌*◌, ◌≤◌, ◌<◌, arith, ltb-false, eqb-true, length, take, get_or, set, length-append, take-suc, eqb}
+use borrow.Author.Tests.{eqb-false}
+use lib.ListN.{get_or-append}
+use lib.Seq.{take-append-le, get_or-append_seam}
 use Rattle.base.specs.Buffer.{put}
 use Rattle.base.proofs.Put.{set_cases}
 use Rattle.base.proofs.Tests.{cond_cases}

@@ -1,11 +1,6 @@
--- What the queue towards an end may hold. Assumes nothing.
-use mathlib.Core.Path.{◌≡◌, sym, ◌∙◌}
-use mathlib.Core.Bool.{false}
-use mathlib.Core.List.{List, [], ◌∷◌, ◌++◌}
-use mathlib.Core.Logic.{◌⊎◌, inl, inr}
-use Prim.Native.Nat.{ℕ, suc, ◌%◌, ◌+◌, ◌≤◌, ◌<◌, max}
-use native.Mathlib.Omega.{arith}
-use lib.ListN.{length, get_or, length-append, get_or-append}
+-- What the queue towards an end may hold.
+use Rattle.std.proofs.Common.{◌≡◌, sym, ◌∙◌, false, List, [], ◌∷◌, ◌++◌, ◌⊎◌, inl, inr, ℕ, suc, ◌%◌, ◌+◌, ◌≤◌, ◌<◌, max, arith, length, get_or, length-append}
+use lib.ListN.{get_or-append}
 use Rattle.frame.specs.declared.Format.{Format}
 use Rattle.frame.specs.declared.Heard.{Heard}
 use Rattle.frame.specs.declared.Heard.TheVariants.{Size, Sum, Ack, Nak, Data}

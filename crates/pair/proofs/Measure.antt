@@ -1,13 +1,6 @@
--- What is left to be repeated and acknowledged at one end, and that no call of a quiet continuation raises it. Assumes nothing.
-use mathlib.Core.Path.{◌≡◌, refl, sym, ap, subst}
-use mathlib.Core.Bool.{Bool, true, false, true≢false, cond, not, ◌&&◌, ◌||◌}
-use mathlib.Core.List.{List, []}
-use Prim.Native.Nat.{ℕ, zero, suc, ◌%◌, ◌+◌, ◌-◌, ◌*◌, ◌≤◌, ◌<◌}
-use native.Mathlib.Omega.{arith}
-use borrow.Author.Tests.{ltb-true, eqb-true, eqb-false, ne_eqb}
-use lib.ListN.{length, get_or}
-use lib.Seq.{get_or-set_same}
-use lib.Dec.{eqb, ltb}
+-- What is left to be repeated and acknowledged at one end, and that no call of a quiet continuation raises it.
+use Rattle.std.proofs.Common.{◌≡◌, refl, sym, ap, subst, Bool, true, false, true≢false, cond, not, ◌&&◌, ◌||◌, List, [], ℕ, zero, suc, ◌%◌, ◌+◌, ◌-◌, ◌*◌, ◌≤◌, ◌<◌, arith, ltb-true, eqb-true, ne_eqb, length, get_or, get_or-set_same, eqb, ltb}
+use borrow.Author.Tests.{eqb-false}
 use Rattle.base.specs.Answer.{done}
 use Rattle.base.proofs.Put.{set_cases}
 use Rattle.base.proofs.Tests.{and_left}

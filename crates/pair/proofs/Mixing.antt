@@ -1,9 +1,5 @@
--- Looks in any mixture leave what looks at one end after the other leave. Assumes nothing.
-use mathlib.Core.Path.{◌≡◌, refl, sym, ap, subst, ◌∙◌}
-use mathlib.Core.Bool.{Bool, true, false}
-use mathlib.Core.List.{List}
-use Prim.Native.Nat.{ℕ, ◌≤◌}
-use lib.ListN.{length}
+-- Looks in any mixture leave what looks at one end after the other leave.
+use Rattle.std.proofs.Common.{◌≡◌, refl, sym, ap, subst, ◌∙◌, Bool, true, false, List, ℕ, ◌≤◌, length}
 use Rattle.state.specs.Bounds.{frame_need}
 use Rattle.pair.specs.System.{Calls, System, swap, look_of, looks}
 use Rattle.pair.specs.Round.{Enough, Looks, nothing, sends-on}

@@ -1,7 +1,5 @@
--- What holds at every moment of any link, if it holds at the start and every move keeps it. Assumes nothing.
-use mathlib.Core.List.{List}
-use Prim.Native.Nat.{ℕ, ◌≤◌}
-use lib.ListN.{length}
+-- What holds at every moment of any link, if it holds at the start and every move keeps it.
+use Rattle.std.proofs.Common.{List, ℕ, ◌≤◌, length}
 use Rattle.state.specs.declared.Settings.{Settings}
 use Rattle.state.specs.Bounds.{slots_need}
 use Rattle.state.specs.Formed.{InRange}

@@ -1,12 +1,5 @@
--- Every move keeps what holds, so it holds at every moment. Assumes nothing.
-use mathlib.Core.Path.{◌≡◌, refl, sym, ap, subst, ◌∙◌}
-use mathlib.Core.Bool.{Bool, true, false, cond}
-use mathlib.Core.List.{List, [], ◌∷◌, append-nil}
-use Prim.Native.Nat.{ℕ, suc, ◌%◌, ◌+◌, ◌*◌, ◌≤◌, ◌<◌, max}
-use native.Mathlib.Omega.{arith}
-use borrow.Author.Tests.{ne_eqb}
-use lib.ListN.{length, get_or}
-use lib.Dec.{eqb}
+-- Every move keeps what holds, so it holds at every moment.
+use Rattle.std.proofs.Common.{◌≡◌, refl, sym, ap, subst, ◌∙◌, Bool, true, false, cond, List, [], ◌∷◌, append-nil, ℕ, suc, ◌%◌, ◌+◌, ◌*◌, ◌≤◌, ◌<◌, max, arith, ne_eqb, length, get_or, eqb}
 use Rattle.base.specs.Answer.{done, short_buffer, link_lost, unexpected}
 use Rattle.base.specs.Buffer.{put}
 use Rattle.base.proofs.Put.{put-length}

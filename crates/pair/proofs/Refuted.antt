@@ -1,9 +1,5 @@
--- The links of `Refuted` and the lines of `LineKept` (specs/FalseCalls.antt), each refuted by a history that is computed. Assumes nothing.
-use mathlib.Core.Path.{◌≡◌, refl, sym, ap, subst}
-use mathlib.Core.List.{List, [], ◌∷◌, ◌++◌}
-use Prim.Native.Nat.{ℕ, ◌<◌}
-use native.Mathlib.Omega.{arith}
-use lib.ListN.{length, get_or}
+-- The links of `Refuted` and the lines of `LineKept` (specs/FalseCalls.antt), each refuted by a history that is computed.
+use Rattle.std.proofs.Common.{◌≡◌, refl, sym, ap, subst, List, [], ◌∷◌, ◌++◌, ℕ, ◌<◌, arith, length, get_or}
 use Rattle.base.specs.Buffer.{put}
 use Rattle.fcs.specs.Checksum.{checksum_of}
 use Rattle.frame.specs.Bytes.{frame_of, data_frame}

@@ -1,13 +1,5 @@
--- The links of specs/FalseCalls.antt that demand 3, or a half of it, does not see. Assumes nothing.
-use mathlib.Core.Path.{◌≡◌, refl, sym, ap, subst, ◌∙◌}
-use mathlib.Core.Bool.{true, false}
-use mathlib.Core.List.{List, [], ◌∷◌, append-nil}
-use Prim.Native.Nat.{ℕ, ◌+◌, ◌≤◌}
-use native.Mathlib.Omega.{arith}
-use borrow.Author.Tests.{ne_eqb}
-use lib.ListN.{length, take, drop}
-use lib.Seq.{take_at}
-use lib.Dec.{eqb}
+-- The links of specs/FalseCalls.antt that demand 3, or a half of it, does not see.
+use Rattle.std.proofs.Common.{◌≡◌, refl, sym, ap, subst, ◌∙◌, true, false, List, [], ◌∷◌, append-nil, ℕ, ◌+◌, ◌≤◌, arith, ne_eqb, length, take, drop, take_at, eqb}
 use Rattle.base.specs.Answer.{done}
 use Rattle.base.specs.Buffer.{put}
 use Rattle.fcs.specs.Checksum.{checksum_of}

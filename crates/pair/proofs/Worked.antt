@@ -1,8 +1,5 @@
--- The run of specs/Run.antt, computed. Assumes nothing.
-use mathlib.Core.Path.{◌≡◌, refl, sym, ◌∙◌}
-use mathlib.Core.List.{[], ◌∷◌}
-use mathlib.Core.Logic.{inl}
-use native.Mathlib.Omega.{arith}
+-- The run of specs/Run.antt, computed.
+use Rattle.std.proofs.Common.{◌≡◌, refl, sym, ◌∙◌, [], ◌∷◌, inl, arith}
 use Rattle.base.specs.Buffer.{put}
 use Rattle.fcs.specs.Checksum.{checksum_of}
 use Rattle.frame.specs.Bytes.{frame_of, ack_frame, data_frame}

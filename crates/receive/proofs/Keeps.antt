@@ -1,11 +1,5 @@
--- Taking a frame keeps an end's state sound. Assumes nothing.
-use mathlib.Core.Path.{◌≡◌, refl}
-use mathlib.Core.Bool.{Bool, true, false, cond, ◌&&◌}
-use mathlib.Core.List.{List}
-use Prim.Native.Nat.{ℕ, ◌+◌, ◌%◌}
-use native.Mathlib.Omega.{arith}
-use lib.ListN.{length}
-use lib.Dec.{eqb}
+-- Taking a frame keeps an end's state sound.
+use Rattle.std.proofs.Common.{◌≡◌, refl, Bool, true, false, cond, ◌&&◌, List, ℕ, ◌+◌, ◌%◌, arith, length, eqb}
 use Rattle.base.specs.Answer.{done, unexpected}
 use Rattle.base.proofs.Tests.{and_right}
 use Rattle.frame.specs.declared.Heard.{Heard}

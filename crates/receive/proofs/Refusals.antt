@@ -1,11 +1,5 @@
--- Refusals with a NAK differ in their number alone, and the number tells which it was. Assumes nothing.
-use mathlib.Core.Path.{◌≡◌, refl, ap, sym, ◌∙◌}
-use mathlib.Core.Logic.{◌≢◌}
-use mathlib.Core.List.{List, []}
-use Prim.Native.Nat.{ℕ, ◌≤◌}
-use native.Mathlib.Omega.{arith}
-use lib.ListN.{length}
-use lib.Dec.{eqb}
+-- Refusals with a NAK differ in their number alone, and the number tells which it was.
+use Rattle.std.proofs.Common.{◌≡◌, refl, ap, sym, ◌∙◌, ◌≢◌, List, [], ℕ, ◌≤◌, arith, length, eqb}
 use Rattle.base.specs.Answer.{done, unexpected}
 use Rattle.base.proofs.Tests.{cond_cases}
 use Rattle.frame.specs.declared.Heard.{Heard}

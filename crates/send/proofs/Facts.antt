@@ -1,12 +1,5 @@
--- What lets a packet be taken and a frame be made. Assumes nothing.
-use mathlib.Core.Path.{◌≡◌, ap, subst}
-use mathlib.Core.Bool.{Bool, true, cond}
-use mathlib.Core.List.{List}
-use Prim.Native.Nat.{ℕ, ◌+◌, ◌-◌, ◌<◌, ◌≤◌}
-use native.Mathlib.Omega.{arith}
-use borrow.Author.Tests.{ltb-true}
-use lib.Dec.{ltb}
-use lib.ListN.{take, drop}
+-- What lets a packet be taken and a frame be made.
+use Rattle.std.proofs.Common.{◌≡◌, ap, subst, Bool, true, cond, List, ℕ, ◌+◌, ◌-◌, ◌<◌, ◌≤◌, arith, ltb-true, ltb, take, drop}
 use Rattle.base.specs.Range.{within}
 use Rattle.base.specs.Answer.{done, packet_size, window_full}
 use Rattle.base.proofs.Tests.{within_low, within_high, passed, first_of-left, first_of-right}

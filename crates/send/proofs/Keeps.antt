@@ -1,12 +1,5 @@
--- What an end sends keeps its state sound. Assumes nothing.
-use mathlib.Core.Path.{◌≡◌, refl, ◌∙◌}
-use mathlib.Core.Bool.{Bool, true, false, cond}
-use mathlib.Core.List.{List}
-use Prim.Native.Nat.{ℕ, zero, suc, ◌+◌, ◌%◌, ◌<◌, ◌≤◌}
-use native.Mathlib.Omega.{arith}
-use borrow.Author.Tests.{ltb-true}
-use lib.ListN.{length, set, length-set}
-use lib.Seq.{get_or-set_same, get_or-set_other}
+-- What an end sends keeps its state sound.
+use Rattle.std.proofs.Common.{◌≡◌, refl, ◌∙◌, Bool, true, false, cond, List, ℕ, zero, suc, ◌+◌, ◌%◌, ◌<◌, ◌≤◌, arith, ltb-true, length, set, length-set, get_or-set_same, get_or-set_other}
 use Rattle.base.proofs.Put.{set_cases}
 use Rattle.frame.specs.Bytes.{nak_frame}
 use Rattle.state.specs.declared.Link.{Link}

@@ -1,14 +1,6 @@
--- The packets in the slots when submit adds one. Assumes nothing.
-use mathlib.Core.Path.{◌≡◌, refl, ap, ◌∙◌}
-use mathlib.Core.Bool.{Bool, true, false}
-use mathlib.Core.List.{List}
-use Prim.Native.Nat.{ℕ, ◌%◌, ◌*◌, ◌≤◌, ◌<◌}
-use native.Mathlib.Nat.{zero-mul, one-mul}
-use native.Mathlib.Omega.{arith}
-use borrow.Author.Tests.{eqb-true, eqb-false}
-use lib.ListN.{length, take, drop}
-use lib.Seq.{get_or-set_same, get_or-set_other}
-use lib.Dec.{eqb}
+-- The packets in the slots when submit adds one.
+use Rattle.std.proofs.Common.{◌≡◌, refl, ap, ◌∙◌, Bool, true, false, List, ℕ, ◌%◌, ◌*◌, ◌≤◌, ◌<◌, zero-mul, one-mul, arith, eqb-true, length, take, drop, get_or-set_same, get_or-set_other, eqb}
+use borrow.Author.Tests.{eqb-false}
 use Rattle.base.specs.Buffer.{put}
 use Rattle.base.proofs.Put.{put_in, put_before, put_behind}
 use Rattle.state.specs.declared.Link.{Link}

@@ -1,4 +1,4 @@
--- The tests of the state as plain facts, and back. Assumes nothing.
+-- The tests of the state as plain facts, and back.
 use Rattle.std.proofs.Common.{◌≡◌, ℕ, zero, suc, ◌+◌, ◌*◌, ◌%◌, ◌<◌, ◌≤◌, Bool, true, false, cond, ◌&&◌, ◌||◌, eqb, ltb, leb, List, get_or, refl, ap, mul-le-mul_right, mod-lt, suc-mul, arith, ltb-false, ltb-true, le-ltb, lt-ltb, eq-eqb, eqb-true, le-leb, leb-true}
 use borrow.Author.Tests.{eqb-false}
 use Rattle.base.specs.Range.{within}

@@ -1,4 +1,4 @@
--- Which changes keep a sound state sound, and that start and resynchronise do. Assumes nothing.
+-- Which changes keep a sound state sound, and that start and resynchronise do.
 use Rattle.std.proofs.Common.{◌≡◌, ℕ, zero, suc, ◌<◌, ◌≤◌, Bool, true, false, cond, not, ltb, List, length, get_or, refl, ◌∙◌, arith, le-ltb}
 use Rattle.base.specs.Answer.{done, out_of_range, short_buffer, link_lost}
 use Rattle.base.proofs.Tests.{cond_false}

@@ -1,4 +1,4 @@
--- The wrong time left of specs/FalseTimes.antt, tried at one state that code can hold, by computing. Assumes nothing.
+-- The wrong time left of specs/FalseTimes.antt, tried at one state that code can hold, by computing.
 use Rattle.std.proofs.Common.{ℕ, false, [], ◌∷◌, refl, ap}
 use borrow.Author.Tests.{eqb-false}
 use Rattle.state.specs.declared.Link.{Link}

@@ -1,5 +1,5 @@
 -- `bus::main` is safe and ends.
--- Assumes nothing.
+--
 use Rattle.std.proofs.Common.{rules}
 use Rattle.bus.proofs.main.Statement.{statement}
 use Rattle.bus.proofs.main.Tie as tie

@@ -1,6 +1,5 @@
 -- `clock::acknowledge` meets its contract.
-use mathlib.Core.Path.{sym, ◌∙◌}
-use borrow.Author.Tests.{ne_eqb, eq-eqb}
+use Rattle.std.proofs.Common.{sym, ◌∙◌, ne_eqb, eq-eqb}
 use Rattle.state.proofs.Facts.{gate_of_facts, control_fits}
 use Rattle.clock.specs.Look.{acknowledged_now}
 use Rattle.clock.proofs.acknowledge.Goals as goal

@@ -1,6 +1,5 @@
 -- `clock::look` meets its contract.
-use mathlib.Core.Path.{sym, ◌∙◌}
-use borrow.Author.Tests.{ne_eqb, eq-eqb}
+use Rattle.std.proofs.Common.{sym, ◌∙◌, ne_eqb, eq-eqb}
 use Rattle.state.proofs.Facts.{gate_of_facts, open_usable}
 use Rattle.clock.specs.Look.{looked}
 use Rattle.clock.proofs.look.Goals as goal

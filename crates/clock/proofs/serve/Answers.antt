@@ -1,5 +1,5 @@
 -- `clock::serve` meets its contract.
-use mathlib.Core.Path.{sym, ◌∙◌}
+use Rattle.std.proofs.Common.{sym, ◌∙◌}
 use Rattle.state.proofs.Facts.{gate_of_facts}
 use Rattle.send.proofs.Facts.{waiting_ready}
 use Rattle.clock.proofs.serve.Goals as goal

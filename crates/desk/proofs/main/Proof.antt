@@ -1,5 +1,5 @@
 -- `desk::main` is safe and ends.
--- Assumes nothing.
+--
 use Rattle.std.proofs.Common.{arith, rules}
 use Rattle.desk.proofs.main.Statement.{statement}
 use Rattle.desk.proofs.main.Tie as tie

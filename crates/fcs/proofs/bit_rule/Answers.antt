@@ -1,9 +1,6 @@
 -- `fcs::bit_rule` meets its contract. The invariant: the bits that are left, from where the loop stands, give the whole step.
-use mathlib.Core.Path.{◌≡◌, refl, sym, ◌∙◌}
-use Prim.Native.Nat.{ℕ, suc, ◌<◌, ◌+◌, ◌-◌, ◌/◌, ◌%◌}
-use borrow.Author.Tests.{eq-eqb, ne_eqb}
-use lib.Bits.{bit_and, bit_xor, and_mask}
-use native.Mathlib.Omega.{arith}
+use Rattle.std.proofs.Common.{◌≡◌, refl, sym, ◌∙◌, ℕ, suc, ◌<◌, ◌+◌, ◌-◌, ◌/◌, ◌%◌, eq-eqb, ne_eqb, bit_and, bit_xor, arith}
+use lib.Bits.{and_mask}
 use Rattle.fcs.specs.Checksum.{bit_step, bit_steps, byte_step}
 use Rattle.fcs.proofs.bit_rule.Goals as goal
 use Rattle.fcs.proofs.bit_rule.Goals.{then-crc-bits, else-crc-bits}
@@ -31,11 +28,10 @@ loop-k-preserved c =
     let l = c.loop-k in
     let e = next l.k l.crc l.bits _ (omega arith) l.invariant.1 in
     elim c.if-crc-bits.branch [
-      then-crc-bits w ↦ (omega arith, rw (w.crc-is, ← same l.crc l.bits w.if-crc-bits.true) e)
-    | else-crc-bits w ↦ (omega arith, rw (w.crc-is, ← other l.crc l.bits w.if-crc-bits.false) e)
+      | then-crc-bits w ↦ (omega arith, rw (w.crc-is, ← same l.crc l.bits w.if-crc-bits.true) e)
+      | else-crc-bits w ↦ (omega arith, rw (w.crc-is, ← other l.crc l.bits w.if-crc-bits.false) e)
     ]
 
 pub returns : goal.returns
 unfolding bit_steps
 returns c = let e : 8 - c.loop-k.k ≡ 0 = omega arith in rw e at c.loop-k.invariant.1
-

@@ -1,6 +1,5 @@
 -- `fcs::bit_rule` meets its contract. The invariant: the bits that are left, from where the loop stands, give the whole step.
-use mathlib.Core.Path.{◌≡◌}
-use Prim.Native.Nat.{◌≤◌, ◌-◌}
+use Rattle.std.proofs.Common.{◌≡◌, ◌≤◌, ◌-◌}
 use Rattle.fcs.specs.Checksum.{bit_steps, byte_step}
 use Rattle.fcs.proofs.bit_rule.Given as goal
 

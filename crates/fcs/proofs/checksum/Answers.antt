@@ -1,6 +1,5 @@
 -- `fcs::checksum` meets its contract. The invariant: what is left of the slice, from where the loop stands, gives the whole.
-use mathlib.Core.Path.{refl}
-use native.Mathlib.Omega.{arith}
+use Rattle.std.proofs.Common.{refl, arith}
 use Rattle.fcs.specs.Checksum.{checksum_of}
 use Rattle.fcs.proofs.Laws.{checksum_from_next, checksum_from-done}
 use Rattle.fcs.proofs.checksum.Goals as goal
@@ -16,4 +15,3 @@ loop-i-preserved c =
 
 pub returns : goal.returns
 returns c = let l = c.loop-i in checksum_from-done _ l.i l.crc _ (omega arith) l.invariant.1
-

@@ -1,7 +1,5 @@
 -- `fcs::checksum` meets its contract. The invariant: what is left of the slice, from where the loop stands, gives the whole.
-use mathlib.Core.Path.{◌≡◌}
-use Prim.Native.Nat.{◌≤◌, ◌-◌}
-use lib.ListN.{length, drop}
+use Rattle.std.proofs.Common.{◌≡◌, ◌≤◌, ◌-◌, length, drop}
 use Rattle.fcs.specs.Checksum.{checksum_from, checksum_of, Agrees}
 use Rattle.fcs.proofs.checksum.Given as goal
 

@@ -4,4 +4,3 @@ use Rattle.fcs.proofs.step.Goals as goal
 
 pub returns : goal.returns
 returns c = let b = c in agrees_step b.requires b.args.seed b.args.byte b.ranges.byte.fits
-

@@ -1,5 +1,6 @@
 -- `frame::accept` meets its contract.
-use borrow.Author.Tests.{lt-leb, le-leb, eq-eqb, ne_eqb}
+use Rattle.std.proofs.Common.{le-leb, eq-eqb, ne_eqb}
+use borrow.Author.Tests.{lt-leb}
 use Rattle.frame.specs.Steps.{accepted}
 use Rattle.frame.proofs.accept.Goals as goal
 

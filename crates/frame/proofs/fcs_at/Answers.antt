@@ -1,6 +1,6 @@
 -- `frame::fcs_at` meets its contract.
 use Rattle.frame.proofs.Hearing.{fcs_at-read}
-use native.Mathlib.Omega.{arith}
+use Rattle.std.proofs.Common.{arith}
 use Rattle.frame.proofs.fcs_at.Goals as goal
 
 pub returns : goal.returns

@@ -1,5 +1,5 @@
 -- `frame::hear` meets its contract.
-use borrow.Author.Tests.{lt-ltb, le-ltb}
+use Rattle.std.proofs.Common.{lt-ltb, le-ltb}
 use Rattle.frame.specs.Steps.{heard}
 use Rattle.frame.proofs.hear.Goals as goal
 

@@ -1,5 +1,5 @@
 -- `frame::is_used` meets its contract.
-use mathlib.Core.Path.{refl}
+use Rattle.std.proofs.Common.{refl}
 use Rattle.frame.specs.Steps.{used}
 use Rattle.frame.proofs.is_used.Goals as goal
 

@@ -1,6 +1,6 @@
 -- `frame::seal` meets its contract.
 use Rattle.frame.proofs.Writing.{seal_written}
-use native.Mathlib.Omega.{arith}
+use Rattle.std.proofs.Common.{arith}
 use Rattle.frame.proofs.seal.Goals as goal
 
 pub returns : goal.returns

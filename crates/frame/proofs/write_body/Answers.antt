@@ -1,6 +1,6 @@
 -- `frame::write_body` meets its contract.
 use Rattle.frame.proofs.Writing.{body_put}
-use native.Mathlib.Omega.{arith}
+use Rattle.std.proofs.Common.{arith}
 use Rattle.frame.proofs.write_body.Goals as goal
 
 pub returns : goal.returns

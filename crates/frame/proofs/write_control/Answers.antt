@@ -1,8 +1,7 @@
 -- `frame::write_control` meets its contract.
-use mathlib.Core.Path.{refl}
+use Rattle.std.proofs.Common.{refl, arith}
 use Rattle.frame.specs.Bytes.{frame_of}
 use Rattle.frame.proofs.Writing.{sealed_written}
-use native.Mathlib.Omega.{arith}
 use Rattle.frame.proofs.write_control.Goals as goal
 
 pub returns : goal.returns

@@ -1,9 +1,7 @@
 -- `frame::write_data` meets its contract.
-use Prim.Native.Nat.{◌+◌}
-use lib.ListN.{length}
+use Rattle.std.proofs.Common.{◌+◌, length, arith}
 use Rattle.frame.specs.Bytes.{frame_of}
 use Rattle.frame.proofs.Writing.{sealed_written}
-use native.Mathlib.Omega.{arith}
 use Rattle.frame.proofs.write_data.Goals as goal
 
 pub returns : goal.returns

@@ -1,6 +1,5 @@
 -- `receive::take` meets its contract.
-use mathlib.Core.Path.{sym, ◌∙◌}
-use borrow.Author.Tests.{ne_eqb, eq-eqb}
+use Rattle.std.proofs.Common.{sym, ◌∙◌, ne_eqb, eq-eqb}
 use Rattle.frame.proofs.Hearing.{number_heard}
 use Rattle.receive.specs.Take.{frame_taken}
 use Rattle.state.proofs.Facts.{gate_of_facts, open_usable}

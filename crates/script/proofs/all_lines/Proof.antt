@@ -1,5 +1,5 @@
 -- `script::all_lines` is safe and ends.
--- Assumes nothing.
+--
 use borrow.Author.Rules.{rules}
 use Rattle.script.proofs.all_lines.Statement.{statement}
 use Rattle.script.proofs.all_lines.Tie as tie

@@ -1,7 +1,6 @@
 -- `send::store` meets its contract.
 -- the packet ends within the slot's part
-use Prim.Native.Nat.{◌+◌, ◌-◌}
-use native.Mathlib.Omega.{arith}
+use Rattle.std.proofs.Common.{◌+◌, ◌-◌, arith}
 use Rattle.base.proofs.Put.{put_lent}
 use Rattle.send.proofs.store.Goals as goal
 

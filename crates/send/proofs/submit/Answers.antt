@@ -1,6 +1,5 @@
 -- `send::submit` meets its contract.
-use mathlib.Core.Path.{sym, ◌∙◌}
-use borrow.Author.Tests.{ne_eqb, eq-eqb}
+use Rattle.std.proofs.Common.{sym, ◌∙◌, ne_eqb, eq-eqb}
 use Rattle.send.specs.Submit.{submitted}
 use Rattle.send.proofs.Facts.{submit_gate_fits}
 use Rattle.send.proofs.submit.Goals as goal

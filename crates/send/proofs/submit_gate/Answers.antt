@@ -1,6 +1,5 @@
 -- `send::submit_gate` meets its contract.
-use mathlib.Core.Path.{sym}
-use borrow.Author.Tests.{lt-ltb, le-ltb}
+use Rattle.std.proofs.Common.{sym, lt-ltb, le-ltb}
 use Rattle.send.specs.Submit.{submit_gate}
 use Rattle.base.proofs.Tests.{first_of-refused, first_of-done}
 use Rattle.send.proofs.submit_gate.Goals as goal

@@ -1,5 +1,5 @@
 -- `bus::book::is_same` is safe and ends.
--- Assumes nothing.
+--
 use Rattle.std.proofs.Common.{◌-◌, rules}
 use Rattle.bus.proofs.book.is_same.Statement.{statement}
 use Rattle.bus.proofs.book.is_same.Tie as tie

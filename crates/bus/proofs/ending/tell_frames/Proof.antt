@@ -1,5 +1,5 @@
 -- `bus::ending::tell_frames` is safe and ends.
--- Assumes nothing.
+--
 use Rattle.std.proofs.Common.{◌-◌, rules}
 use Rattle.bus.proofs.ending.tell_frames.Statement.{statement}
 use Rattle.bus.proofs.ending.tell_frames.Tie as tie

@@ -1,5 +1,5 @@
 -- `bus::ending::tell_packets` is safe and ends.
--- Assumes nothing.
+--
 use Rattle.std.proofs.Common.{◌-◌, rules}
 use Rattle.bus.proofs.ending.tell_packets.Statement.{statement}
 use Rattle.bus.proofs.ending.tell_packets.Tie as tie

@@ -1,5 +1,5 @@
 -- `bus::task::make_all` is safe and ends.
--- Assumes nothing.
+--
 use Rattle.std.proofs.Common.{rules}
 use Rattle.bus.proofs.task.make_all.Statement.{statement}
 use Rattle.bus.proofs.task.make_all.Tie as tie

@@ -1,5 +1,5 @@
 -- `ends::line::close_up` is safe and ends.
--- Assumes nothing.
+--
 use Rattle.std.proofs.Common.{◌-◌, rules}
 use Rattle.ends.proofs.line.close_up.Statement.{statement}
 use Rattle.ends.proofs.line.close_up.Tie as tie

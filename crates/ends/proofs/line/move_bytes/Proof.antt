@@ -1,5 +1,5 @@
 -- `ends::line::move_bytes` is safe and ends.
--- Assumes nothing.
+--
 use Rattle.std.proofs.Common.{◌-◌, rules}
 use Rattle.ends.proofs.line.move_bytes.Statement.{statement}
 use Rattle.ends.proofs.line.move_bytes.Tie as tie

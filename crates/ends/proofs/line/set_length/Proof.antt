@@ -1,5 +1,5 @@
 -- `ends::line::set_length` is safe and ends: the first store leaves the length as it was.
--- Assumes nothing.
+--
 use Rattle.std.proofs.Common.{arith, length-set, rules}
 use Rattle.ends.proofs.line.set_length.Statement.{statement}
 use Rattle.ends.proofs.line.set_length.Tie as tie

@@ -1,5 +1,5 @@
 -- `text::field::digit_pairs` is safe and ends.
--- Assumes nothing.
+--
 use Rattle.std.proofs.Common.{◌≡◌, ◌-◌, ◌≤◌, length, rules}
 use Rattle.text.proofs.field.digit_pairs.Statement.{statement}
 use Rattle.text.proofs.field.digit_pairs.Tie as tie

@@ -1,5 +1,5 @@
 -- `text::field::number` is safe and ends.
--- Assumes nothing.
+--
 use Rattle.std.proofs.Common.{◌-◌, length, rules}
 use Rattle.text.proofs.field.number.Statement.{statement}
 use Rattle.text.proofs.field.number.Tie as tie

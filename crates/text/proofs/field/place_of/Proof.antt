@@ -1,5 +1,5 @@
 -- `text::field::place_of` is safe and ends.
--- Assumes nothing.
+--
 use Rattle.std.proofs.Common.{◌-◌, ◌≤◌, length, rules}
 use Rattle.text.proofs.field.place_of.Statement.{statement}
 use Rattle.text.proofs.field.place_of.Tie as tie

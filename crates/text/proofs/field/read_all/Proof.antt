@@ -1,5 +1,5 @@
 -- `text::field::read_all` is safe and ends.
--- Assumes nothing.
+--
 use Rattle.std.proofs.Common.{◌≡◌, ◌-◌, length, rules}
 use Rattle.text.proofs.field.read_all.Statement.{statement}
 use Rattle.text.proofs.field.read_all.Tie as tie

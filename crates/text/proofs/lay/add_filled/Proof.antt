@@ -1,5 +1,5 @@
 -- `text::lay::add_filled` is safe and ends.
--- Assumes nothing.
+--
 use Rattle.std.proofs.Common.{◌≡◌, ◌-◌, ◌≤◌, length, rules}
 use Rattle.text.proofs.lay.add_filled.Statement.{statement}
 use Rattle.text.proofs.lay.add_filled.Tie as tie

@@ -1,5 +1,5 @@
 -- `text::lay::add_pair` is safe.
--- Assumes nothing.
+--
 use Rattle.std.proofs.Common.{arith, length-set, rules}
 use Rattle.text.proofs.lay.add_pair.Statement.{statement}
 use Rattle.text.proofs.lay.add_pair.Tie as tie

@@ -1,5 +1,5 @@
 -- `text::lay::add_pairs` is safe and ends.
--- Assumes nothing.
+--
 use Rattle.std.proofs.Common.{◌≡◌, ◌-◌, length, rules}
 use Rattle.text.proofs.lay.add_pairs.Statement.{statement}
 use Rattle.text.proofs.lay.add_pairs.Tie as tie

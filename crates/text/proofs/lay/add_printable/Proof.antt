@@ -1,5 +1,5 @@
 -- `text::lay::add_printable` is safe and ends.
--- Assumes nothing.
+--
 use Rattle.std.proofs.Common.{◌≡◌, ◌-◌, length, rules}
 use Rattle.text.proofs.lay.add_printable.Statement.{statement}
 use Rattle.text.proofs.lay.add_printable.Tie as tie

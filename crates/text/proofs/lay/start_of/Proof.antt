@@ -1,5 +1,5 @@
 -- `text::lay::start_of` is safe and ends.
--- Assumes nothing.
+--
 use Rattle.std.proofs.Common.{◌-◌, rules}
 use Rattle.text.proofs.lay.start_of.Statement.{statement}
 use Rattle.text.proofs.lay.start_of.Tie as tie

@@ -1,5 +1,5 @@
 -- `text::lines::move_to_front` is safe and ends.
--- Assumes nothing.
+--
 use Rattle.std.proofs.Common.{◌≡◌, ◌-◌, ◌≤◌, length, rules}
 use Rattle.text.proofs.lines.move_to_front.Statement.{statement}
 use Rattle.text.proofs.lines.move_to_front.Tie as tie
