@@ -73,31 +73,31 @@ pub spared : (t : Bool) (n : ℕ) → 1 ≤ n → cond t n done ≡ done → t �
 spared true n h e = absurd (omega arith)
 spared false n h e = refl
 
-pub first_of-left : (a b : ℕ) → first_refusal a b ≡ done → a ≡ done
-first_of-left a b e = go (eqb a done) refl e
+pub first_refusal_left : (a b : ℕ) → first_refusal a b ≡ done → a ≡ done
+first_refusal_left a b e = go (eqb a done) refl e
   where
     go : (t : Bool) → eqb a done ≡ t → cond t b a ≡ done → a ≡ done
     go true q p = eqb-true a done q
     go false q p = p
 
-pub first_of-right : (a b : ℕ) → first_refusal a b ≡ done → b ≡ done
-first_of-right a b e = sym (cond_true (eqb a done) b a (eq-eqb a done (first_of-left a b e))) ∙ e
+pub first_refusal_right : (a b : ℕ) → first_refusal a b ≡ done → b ≡ done
+first_refusal_right a b e = sym (cond_true (eqb a done) b a (eq-eqb a done (first_refusal_left a b e))) ∙ e
 
 -- a gate of four tests, open
-pub first_of_four : (a b c d : ℕ) → first_refusal a (first_refusal b (first_refusal c d)) ≡ done → (a ≡ done) × (b ≡ done) × (c ≡ done) × (d ≡ done)
-first_of_four a b c d e =
-    let inner : first_refusal b (first_refusal c d) ≡ done = first_of-right a (first_refusal b (first_refusal c d)) e in
-    let last : first_refusal c d ≡ done = first_of-right b (first_refusal c d) inner in
-    (first_of-left a (first_refusal b (first_refusal c d)) e, first_of-left b (first_refusal c d) inner, first_of-left c d last, first_of-right c d last)
+pub first_refusal_four : (a b c d : ℕ) → first_refusal a (first_refusal b (first_refusal c d)) ≡ done → (a ≡ done) × (b ≡ done) × (c ≡ done) × (d ≡ done)
+first_refusal_four a b c d e =
+    let inner : first_refusal b (first_refusal c d) ≡ done = first_refusal_right a (first_refusal b (first_refusal c d)) e in
+    let last : first_refusal c d ≡ done = first_refusal_right b (first_refusal c d) inner in
+    (first_refusal_left a (first_refusal b (first_refusal c d)) e, first_refusal_left b (first_refusal c d) inner, first_refusal_left c d last, first_refusal_right c d last)
 
 -- the first answer refuses
-pub first_of-refused : (a b : ℕ) → (a ≡ done → ⊥) → first_refusal a b ≡ a
-first_of-refused a b n = cond_false (eqb a done) b a (ne_eqb a done n)
+pub first_refusal_refused : (a b : ℕ) → (a ≡ done → ⊥) → first_refusal a b ≡ a
+first_refusal_refused a b n = cond_false (eqb a done) b a (ne_eqb a done n)
 
 -- it does not
-pub first_of-done : (a b : ℕ) → a ≡ done → first_refusal a b ≡ b
-first_of-done a b e = cond_true (eqb a done) b a (eq-eqb a done e)
+pub first_refusal_done : (a b : ℕ) → a ≡ done → first_refusal a b ≡ b
+first_refusal_done a b e = cond_true (eqb a done) b a (eq-eqb a done e)
 
 -- a bound of both is one of the first
-pub first_of_below : (n a b : ℕ) → a ≤ n → b ≤ n → first_refusal a b ≤ n
-first_of_below n a b p q = cond_cases (λ k. k ≤ n) (eqb a done) b a (λ e. q) (λ e. p)
+pub first_refusal_below : (n a b : ℕ) → a ≤ n → b ≤ n → first_refusal a b ≤ n
+first_refusal_below n a b p q = cond_cases (λ k. k ≤ n) (eqb a done) b a (λ e. q) (λ e. p)

@@ -2,7 +2,7 @@
 use Rattle.std.proofs.Common.{◌≡◌, sym, ap, ◌∙◌, Bool, true, cond, ◌&&◌, List, ℕ, ◌≤◌, arith, ltb-false, eqb-true, length, get_or, ltb, leb, eqb}
 use Rattle.base.specs.Range.{within}
 use Rattle.base.specs.Answer.{done, out_of_range, short_buffer, packet_size, other_channel, chain_fault, fault_told, secured_packet, too_long}
-use Rattle.base.proofs.Tests.{and_left, cond_cases, within_low, within_high, passed, spared, first_of_four}
+use Rattle.base.proofs.Tests.{and_left, cond_cases, within_low, within_high, passed, spared, first_refusal_four}
 use Rattle.chain.specs.declared.Joining.{Joining}
 use Rattle.chain.specs.Pctr.{only_channel, channel_of, secured_of, chain_of, fault}
 use Rattle.chain.specs.Cut.{limit_ok, longest, Cutting}
@@ -22,7 +22,7 @@ join_gate_facts m j packet room e =
     let two : ℕ = cond (ltb room longest) short_buffer done in
     let three : ℕ = cond (within 1 (length packet) m) done packet_size in
     let four : ℕ = cond (eqb (channel_of (get_or packet 0 0)) only_channel) done other_channel in
-    let f : (one ≡ done) × (two ≡ done) × (three ≡ done) × (four ≡ done) = first_of_four one two three four e in
+    let f : (one ≡ done) × (two ≡ done) × (three ≡ done) × (four ≡ done) = first_refusal_four one two three four e in
     let m-ok : limit_ok m ≡ true = and_left (limit_ok m) (leb j.length longest) (passed ok out_of_range (omega arith) f.0) in
     let size : within 1 (length packet) m ≡ true = passed (within 1 (length packet) m) packet_size (omega arith) f.2 in
     record {
@@ -39,7 +39,7 @@ chain_gate_fits m j pctr size e =
     let three : ℕ = cond (secured_of pctr && begins (chain_of pctr)) secured_packet done in
     let long : Bool = ltb longest (total_of j (chain_of pctr) size) in
     let four : ℕ = cond long too_long done in
-    ltb-false longest (total_of j (chain_of pctr) size) (spared long too_long (omega arith) (first_of_four one two three four e).3)
+    ltb-false longest (total_of j (chain_of pctr) size) (spared long too_long (omega arith) (first_refusal_four one two three four e).3)
 
 -- ---- the calls alone
 

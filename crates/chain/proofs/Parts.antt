@@ -6,7 +6,7 @@ use Rattle.base.specs.Range.{within, least_of}
 use Rattle.base.specs.Buffer.{put}
 use Rattle.base.specs.Answer.{done, out_of_range, short_buffer, message_size, no_such_packet}
 use Rattle.base.proofs.Put.{put-length, put-put, put_sets}
-use Rattle.base.proofs.Tests.{cond_cases, within_low, within_high, passed, spared, first_of_four}
+use Rattle.base.proofs.Tests.{cond_cases, within_low, within_high, passed, spared, first_refusal_four}
 use Rattle.chain.specs.Cut.{limit_ok, longest, part_size, packet_count, chain_at, part_at, message_gate, cut_gate, cutting, given}
 use Rattle.chain.specs.Pctr.{pctr_of}
 
@@ -82,7 +82,7 @@ cut_gate_facts m buffer message i e =
     let two : ℕ = cond (ltb buffer m) short_buffer done in
     let three : ℕ = cond (within 1 message longest) done message_size in
     let four : ℕ = cond (ltb i (packet_count m message)) done no_such_packet in
-    let f : (one ≡ done) × (two ≡ done) × (three ≡ done) × (four ≡ done) = first_of_four one two three four e in
+    let f : (one ≡ done) × (two ≡ done) × (three ≡ done) × (four ≡ done) = first_refusal_four one two three four e in
     let m-ok : limit_ok m ≡ true = passed (limit_ok m) out_of_range (omega arith) f.0 in
     let size : within 1 message longest ≡ true = passed (within 1 message longest) message_size (omega arith) f.2 in
     record {

@@ -2,7 +2,7 @@
 use Rattle.std.proofs.Common.{◌≡◌, ap, subst, Bool, true, cond, List, ℕ, ◌+◌, ◌-◌, ◌<◌, ◌≤◌, arith, ltb-true, ltb, take, drop}
 use Rattle.base.specs.Range.{within}
 use Rattle.base.specs.Answer.{done, packet_size, window_full}
-use Rattle.base.proofs.Tests.{within_low, within_high, passed, first_of-left, first_of-right}
+use Rattle.base.proofs.Tests.{within_low, within_high, passed, first_refusal_left, first_refusal_right}
 use Rattle.frame.specs.Bytes.{data_frame, Written}
 use Rattle.state.specs.declared.Link.{Link}
 use Rattle.state.specs.Bounds.{limit_of}
@@ -30,13 +30,13 @@ submit_gate_facts l slots frame packet e =
     let full : Bool = ltb l.waiting l.settings.window in
     let four : ℕ = cond size done packet_size in
     let five : ℕ = cond full done window_full in
-    let inner : packet_gate l packet ≡ done = first_of-right (gate_of l slots frame) (packet_gate l packet) e in
-    let fits : size ≡ true = passed size packet_size (omega arith) (first_of-left four five inner) in
+    let inner : packet_gate l packet ≡ done = first_refusal_right (gate_of l slots frame) (packet_gate l packet) e in
+    let fits : size ≡ true = passed size packet_size (omega arith) (first_refusal_left four five inner) in
     record {
-      gate = gate_of_facts l slots frame (first_of-left (gate_of l slots frame) (packet_gate l packet) e);
+      gate = gate_of_facts l slots frame (first_refusal_left (gate_of l slots frame) (packet_gate l packet) e);
       least = within_low 1 packet (limit_of l.settings) fits;
       most = within_high 1 packet (limit_of l.settings) fits;
-      place = ltb-true l.waiting l.settings.window (passed full window_full (omega arith) (first_of-right four five inner));
+      place = ltb-true l.waiting l.settings.window (passed full window_full (omega arith) (first_refusal_right four five inner));
     }
 
 -- a packet of at most m bytes lies in the slot buffer, in the part of its slot

@@ -3,7 +3,7 @@ use Rattle.std.proofs.Common.{◌≡◌, ℕ, zero, suc, ◌+◌, ◌*◌, ◌%�
 use borrow.Author.Tests.{eqb-false}
 use Rattle.base.specs.Range.{within}
 use Rattle.base.specs.Answer.{done, out_of_range, short_buffer, link_lost}
-use Rattle.base.proofs.Tests.{and_left, and_right, or_right, or_left_false, or_right_false, cond_cases, within_low, within_high, passed, spared, first_of-left, first_of-right, first_of_below}
+use Rattle.base.proofs.Tests.{and_left, and_right, or_right, or_left_false, or_right_false, cond_cases, within_low, within_high, passed, spared, first_refusal_left, first_refusal_right, first_refusal_below}
 use Rattle.frame.specs.Bytes.{high_first}
 use Rattle.state.specs.declared.Settings.{Settings}
 use Rattle.state.specs.declared.Link.{Link}
@@ -179,9 +179,9 @@ entry_of_facts l slots frame e =
     let short = ltb slots (slots_need l.settings) || ltb frame (frame_need l.settings) in
     let one : ℕ = cond (well_formed l) done out_of_range in
     let two : ℕ = cond short short_buffer done in
-    let enough : short ≡ false = spared short short_buffer (omega arith) (first_of-right one two e) in
+    let enough : short ≡ false = spared short short_buffer (omega arith) (first_refusal_right one two e) in
     record {
-      formed = well_formed_facts l (passed (well_formed l) out_of_range (omega arith) (first_of-left one two e));
+      formed = well_formed_facts l (passed (well_formed l) out_of_range (omega arith) (first_refusal_left one two e));
       slots_room = ltb-false slots (slots_need l.settings) (or_left_false (ltb slots (slots_need l.settings)) (ltb frame (frame_need l.settings)) enough);
       frame_room = ltb-false frame (frame_need l.settings) (or_right_false (ltb slots (slots_need l.settings)) (ltb frame (frame_need l.settings)) enough);
     }
@@ -190,16 +190,16 @@ pub gate_of_facts : (l : Link) (slots frame : ℕ) → gate_of l slots frame ≡
 unfolding gate_of
 gate_of_facts l slots frame e =
     record {
-      entered = entry_of_facts l slots frame (first_of-left (entry_of l slots frame) (cond l.lost link_lost done) e);
-      alive = spared l.lost link_lost (omega arith) (first_of-right (entry_of l slots frame) (cond l.lost link_lost done) e);
+      entered = entry_of_facts l slots frame (first_refusal_left (entry_of l slots frame) (cond l.lost link_lost done) e);
+      alive = spared l.lost link_lost (omega arith) (first_refusal_right (entry_of l slots frame) (cond l.lost link_lost done) e);
     }
 
 -- it refuses with 1, 2 or 3
 pub gate_of_below : (l : Link) (slots frame : ℕ) → gate_of l slots frame ≤ 3
 unfolding gate_of entry_of
 gate_of_below l slots frame =
-    first_of_below 3 (entry_of l slots frame) (cond l.lost link_lost done)
-    (first_of_below 3 (cond (well_formed l) done out_of_range) (cond short short_buffer done)
+    first_refusal_below 3 (entry_of l slots frame) (cond l.lost link_lost done)
+    (first_refusal_below 3 (cond (well_formed l) done out_of_range) (cond short short_buffer done)
     (cond_cases (λ k. k ≤ 3) (well_formed l) done out_of_range (λ e. omega arith) (λ e. omega arith))
     (cond_cases (λ k. k ≤ 3) short short_buffer done (λ e. omega arith) (λ e. omega arith)))
     (cond_cases (λ k. k ≤ 3) l.lost link_lost done (λ e. omega arith) (λ e. omega arith))

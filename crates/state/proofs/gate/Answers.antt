@@ -1,17 +1,17 @@
 -- `state::gate` meets its contract.
 use Rattle.std.proofs.Common.{sym}
 use Rattle.state.specs.Gate.{gate_of}
-use Rattle.base.proofs.Tests.{first_of-refused, first_of-done}
+use Rattle.base.proofs.Tests.{first_refusal_refused, first_refusal_done}
 use Rattle.state.proofs.gate.Goals as goal
 
 pub returns-then-l : goal.returns-then-l
 unfolding gate_of
-returns-then-l c = rw (← c.entry-refusal.ensures, first_of-done _ _ c.if-refusal-eq-DONE.true, c.if-l.true)
+returns-then-l c = rw (← c.entry-refusal.ensures, first_refusal_done _ _ c.if-refusal-eq-DONE.true, c.if-l.true)
 
 pub returns-then-refusal-eq-DONE : goal.returns-then-refusal-eq-DONE
 unfolding gate_of
-returns-then-refusal-eq-DONE c = rw (← c.entry-refusal.ensures, first_of-done _ _ c.if-refusal-eq-DONE.true, c.if-l.false)
+returns-then-refusal-eq-DONE c = rw (← c.entry-refusal.ensures, first_refusal_done _ _ c.if-refusal-eq-DONE.true, c.if-l.false)
 
 pub returns : goal.returns
 unfolding gate_of
-returns c = rw (← c.entry-refusal.ensures) (sym (first_of-refused _ _ c.if-refusal-eq-DONE.false))
+returns c = rw (← c.entry-refusal.ensures) (sym (first_refusal_refused _ _ c.if-refusal-eq-DONE.false))
