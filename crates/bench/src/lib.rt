@@ -1,5 +1,6 @@
-// What bench/ measures, for a program in C to call. Not part of the product.
+// What bench/ measures; bench_c has it for a program in C. Not part of the product.
 #![tactic(auto)]
+
 ghost use Rattle.std.specs.Prelude.{◌≡◌};
 ghost use Rattle.fcs.specs.Checksum.{checksum_of};
 
@@ -8,8 +9,7 @@ use frame::Format;
 use state::{Link, Outcome, Settings};
 
 // The checksum of the bytes.
-#[unsafe(no_mangle)]
-pub extern "C" fn bench_checksum(bytes: &[u8]) -> u16
+pub fn bench_checksum(bytes: &[u8]) -> u16
     ensures { result ≡ checksum_of bytes.now }
 {
     fcs::checksum(bytes)
@@ -51,8 +51,7 @@ fn left_over(desk: Link, sent: u16, slots: &[u8], frame: &mut [u8], back: &[u8])
 }
 
 // 0 where the packet was acknowledged (or an order that is none was refused). The chip sends no data, so both ends are lent the same slots.
-#[unsafe(no_mangle)]
-pub extern "C" fn bench_exchange(
+pub fn bench_exchange(
     order: u8,
     packet: &[u8],
     slots: &mut [u8],

@@ -53,10 +53,8 @@ pub fn keep(book: &mut Book, e: End, m: Move, v: Event, store: &Store, packet: &
 // Whether the first so many packets of two shelves are the same.
 pub fn is_same(book: &Book, shelf: usize, other: usize, count: usize) -> bool {
     let mut is_so = true;
-    let mut n: usize = 0;
-    while n < count {
-        is_so = is_so & check::same(packet_at(book, shelf, n), packet_at(book, other, n));
-        n += 1;
+    for n in 0..count {
+        is_so = is_so & (packet_at(book, shelf, n) == packet_at(book, other, n));
     }
     is_so
 }

@@ -3,6 +3,8 @@ use crate::words;
 use crate::words::say;
 use base::answer;
 use state::Settings;
+use std::io;
+use std::io::Write;
 use text::least;
 
 // ---- a call
@@ -23,19 +25,19 @@ pub fn place_of(answer: u8, heard: usize, was_lost: bool) -> usize {
 
 // ---- a start
 
-fn tell_outside(n: usize, x: u16, from: u16, past: u16) {
+fn tell_outside(to: &mut impl Write, n: usize, x: u16, from: u16, past: u16) -> io::Result<()> {
     match (from <= x) & (x < past) {
-        true => {}
-        false => say(n, x as u64, past as u64, 0),
+        true => Ok(()),
+        false => say(to, n, x as u64, past as u64, 0),
     }
 }
 
 // Tells each setting that is out of its range, and the range.
-pub fn tell_ranges(s: Settings) {
-    tell_outside(words::D_RANGE, s.format.d, 16, 1025);
-    tell_outside(words::WIN_RANGE, s.window as u16, 1, 3);
-    tell_outside(words::TRANS_RANGE, s.transtimeout, 2, 1001);
-    tell_outside(words::ACK_RANGE, s.acktimeout, 1, s.transtimeout);
-    tell_outside(words::REP_RANGE, s.repeats as u16, 1, 5);
-    tell_outside(words::ORDER_RANGE, s.format.order as u16, 0, 2);
+pub fn tell_ranges(to: &mut impl Write, s: Settings) -> io::Result<()> {
+    tell_outside(to, words::D_RANGE, s.format.d, 16, 1025)?;
+    tell_outside(to, words::WIN_RANGE, s.window as u16, 1, 3)?;
+    tell_outside(to, words::TRANS_RANGE, s.transtimeout, 2, 1001)?;
+    tell_outside(to, words::ACK_RANGE, s.acktimeout, 1, s.transtimeout)?;
+    tell_outside(to, words::REP_RANGE, s.repeats as u16, 1, 5)?;
+    tell_outside(to, words::ORDER_RANGE, s.format.order as u16, 0, 2)
 }

@@ -9,6 +9,8 @@ use ends::line::PLACES;
 use ends::moves::{Move, OVER, PASS, ROUND, new};
 use ends::rounds::PROMISED;
 use ends::{DESK, Ends, Store, other, rounds};
+use std::io;
+use std::io::Write;
 use text::field::u32_at;
 
 // first: the command's move; a round goes on with others. last: the move that is made. left: how often the first is still to be made.
@@ -24,21 +26,27 @@ pub struct Task {
 // ---- how often its move is to be made
 
 // Not once, which is told.
-fn none(clock: u32, before: usize, end: usize, after: usize) -> u64 {
-    say(words::CLOCK, clock as u64, 0, 0);
-    say(before, 0, 0, 0);
-    words::name(end);
-    say(after, 0, 0, 0);
-    say(words::END_LINE, 0, 0, 0);
-    0
+fn none(
+    to: &mut impl Write,
+    clock: u32,
+    before: usize,
+    end: usize,
+    after: usize,
+) -> io::Result<u64> {
+    say(to, words::CLOCK, clock as u64, 0, 0)?;
+    say(to, before, 0, 0, 0)?;
+    words::name(to, end)?;
+    say(to, after, 0, 0, 0)?;
+    say(to, words::END_LINE, 0, 0, 0)?;
+    Ok(0)
 }
 
 // Where frame n is not on its way from the sender, nothing becomes of it; where there are not so many, none is carried.
-fn if_there(p: Ends, sender: usize, n: u64, times: u64) -> u64 {
+fn if_there(to: &mut impl Write, p: Ends, sender: usize, n: u64, times: u64) -> io::Result<u64> {
     let e = ends::end_of(p, other(sender));
     match (0 < n) & (n <= e.queue as u64) {
-        true => times,
-        false => none(p.clock, words::NOT_THERE, sender, words::NOTHING),
+        true => Ok(times),
+        false => none(to, p.clock, words::NOT_THERE, sender, words::NOTHING),
     }
 }
 
@@ -51,21 +59,21 @@ fn times(n: u64) -> u64 {
 }
 
 // first, second: the numbers of its fields; of a command at an end the first is the end.
-fn left_of(p: Ends, verb: usize, first: u64, second: u64) -> u64 {
+fn left_of(to: &mut impl Write, p: Ends, verb: usize, first: u64, second: u64) -> io::Result<u64> {
     let end = first as usize;
     let e = ends::end_of(p, end);
     let count = times(second);
     match verb {
         command::SUBMIT => match e.taken < PLACES {
-            true => 1,
-            false => none(p.clock, words::NOTHING, end, words::FULL),
+            true => Ok(1),
+            false => none(to, p.clock, words::NOTHING, end, words::FULL),
         },
-        command::CARRY => if_there(p, end, count, count),
-        command::LOSE => if_there(p, end, second, 1),
-        command::DAMAGE => if_there(p, end, second, 1),
-        command::ROUND => times(first),
-        command::SETTLE => PROMISED,
-        _ => 1,
+        command::CARRY => if_there(to, p, end, count, count),
+        command::LOSE => if_there(to, p, end, second, 1),
+        command::DAMAGE => if_there(to, p, end, second, 1),
+        command::ROUND => Ok(times(first)),
+        command::SETTLE => Ok(PROMISED),
+        _ => Ok(1),
     }
 }
 
@@ -89,16 +97,16 @@ fn move_of(clock: u32, verb: usize, first: u32, second: u32) -> Move {
 }
 
 // What the command has to do.
-pub fn task_of(p: Ends, c: Command) -> Task {
+pub fn task_of(to: &mut impl Write, p: Ends, c: Command) -> io::Result<Task> {
     let v = c.values;
     let first = u32_at(v, 0);
     let second = u32_at(v, 1);
-    Task {
+    Ok(Task {
         first: move_of(p.clock, c.verb, first, second),
         last: new(OVER, DESK, 0),
-        left: left_of(p, c.verb, first as u64, second as u64),
+        left: left_of(to, p, c.verb, first as u64, second as u64)?,
         to_the_end: c.verb == command::SETTLE,
-    }
+    })
 }
 
 // ---- what is next
@@ -136,15 +144,16 @@ fn place_of(p: Ends) -> usize {
 }
 
 // Tells what a settle came to, and how many rounds it took.
-pub fn tell_end(verb: usize, before: Ends, p: Ends) {
+pub fn tell_end(to: &mut impl Write, verb: usize, before: Ends, p: Ends) -> io::Result<()> {
     match verb {
         command::SETTLE => say(
+            to,
             place_of(p),
             p.clock as u64,
             std::num::wrapping_sub_u64(p.rounds, before.rounds),
             std::num::wrapping_sub_u64(p.passed, before.passed),
         ),
-        _ => {}
+        _ => Ok(()),
     }
 }
 
@@ -164,18 +173,25 @@ fn left_after(kind: usize, left: u64) -> u64
 }
 
 // The ends after all moves of a command, each told, and what they took and delivered in the book.
-pub fn make_all(p: Ends, task: Task, store: &mut Store, book: &mut Book, bytes: &[u8]) -> Ends {
+pub fn make_all(
+    to: &mut impl Write,
+    p: Ends,
+    task: Task,
+    store: &mut Store,
+    book: &mut Book,
+    bytes: &[u8],
+) -> io::Result<Ends> {
     let mut k = p;
     let mut t = task;
     let mut left = MOVES;
     while 0 < left {
         t = next(k, t);
-        let moved = deeds::play(k, t.last, store, bytes);
+        let moved = deeds::play(to, k, t.last, store, bytes)?;
         let e = ends::end_of(k, t.last.end);
         book::keep(book, e, t.last, moved.event, store, bytes);
-        ending::tell_turn(book, k, moved.ends);
+        ending::tell_turn(to, book, k, moved.ends)?;
         k = moved.ends;
         left = left_after(t.last.kind, left);
     }
-    k
+    Ok(k)
 }

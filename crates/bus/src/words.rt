@@ -1,23 +1,26 @@
 // The words of the story. A line is written phrase by phrase: each is chosen by a number, and no text is handed about.
 use base::answer;
+use std::io;
+use std::io::Write;
 use text::lay;
 
 // ---- phrases
 
 // Writes a phrase by its place, and the numbers in it; none behind the last.
-pub fn say(n: usize, a: u64, b: u64, c: u64) {
+pub fn say(to: &mut impl Write, n: usize, a: u64, b: u64, c: u64) -> io::Result<()> {
     lay::write_chosen(
+        to,
         b"the desk|the chip| submits | hears | looks at the clock| acknowledges now| resynchronises|[%] |, delivers |, frees %|, drops %, which may have arrived|, sends |, which is lost: too many frames are on their way| from | is lost\n| stays: no frame has over 1024 bytes| is damaged: now |, forged: its checksum is right|no such frame is on its way from | has taken 64 packets since it was fresh, and a story keeps no more|[%] % ms later\n|[%] -- round %\n|[%] -- a link is lost; timer rounds: %, milliseconds: %\n|[%] -- not all is through; timer rounds: %, milliseconds: %\n|[%] -- no pair has started\n|[%] -- all is through; timer rounds: %, milliseconds: %\n|[%] -- all of this stretch is through; timer rounds: %, milliseconds: %\n|[%] -- nothing waits any more, but a frame was forged: what arrived need not be what was taken; timer rounds: %, milliseconds: %\n|[%] -- nothing waits any more; timer rounds: %, milliseconds: %\n|bad line %\n|the desk and the chip start: D %, window %, a packet again after % ms|the desk and the chip answer 1 and do NOT start: D %, window %, a packet again after % ms|the desk and the chip answer 2 and do NOT start: D %, window %, a packet again after % ms|, at most % times, an acknowledgement after % ms| (D is %, not 16 to 1024)| (WIN is %, not 1 to 2)| (TRANS is %, not 2 to 1000)| (ACK is %, not 1 to less than TRANS, which is %)| (REP is %, not 1 to 4)| (ORDER is %, not 0 or 1)|, FCS low byte first|, FCS high byte first||: sends number % next, expects %, waiting packets: %|, owes an acknowledgement|, has sent its nak|, link lost|  on its way there: |-- stretch % is over: nothing is promised until the next begins\n|-- stretch % begins: both ends are fresh, and nothing is on its way\n|||in stretch %:\n|in stretch %, of which nothing is promised, since a frame was forged:\n|behind stretch %, where nothing is promised; counted since each end was last fresh:\n| got % of % packets taken at | got % packets; one by one, these are NOT the % packets taken at | got % packets, and % were taken at |, each once and in order|  |-- in the end\n|waiting at the desk: %|, at the chip: %| (link lost)| (dropped by a reset: %, which may have arrived)|timer rounds: %, milliseconds: %\n|\n||, answers % (no pair has started: D is 0, not 16 to 1024)|, answers %|, answers % (link lost before)|, answers % (a packet of % bytes, not 1 to %)|, answers % (window full)||, answers % (unused code)||, answers % (not the expected number)|, answers %|, answers % (link lost now)|, answers % (size: not 5 to % bytes)|, answers % (checksum: wrong, as damage on the way or bytes too many make it)|, answers % (checksum: its two bytes are the other way round, as an end of the other order sends them)|, answers % (a control frame of over 5 bytes)|, answers % (a control frame whose LEN is not 0)|, answers % (length: LEN is not the number of bytes it carries, though the checksum is right)|, answers % (length: it carries no packet, though the checksum is right)",
         n,
         a,
         b,
         c,
-    );
+    )
 }
 
 // Who: by the number of the end.
-pub fn name(end: usize) {
-    say(end % 2, 0, 0, 0);
+pub fn name(to: &mut impl Write, end: usize) -> io::Result<()> {
+    say(to, end % 2, 0, 0, 0)
 }
 
 // What an end does: from this place on, by the kind of its move.
@@ -145,17 +148,17 @@ pub const NOTHING: usize = 86;
 pub const OTHERS: usize = answer::CHAIN_FAULT as usize;
 
 // Writes the phrase, if its number is not 0.
-pub fn say_some(n: usize, number: u64) {
+pub fn say_some(to: &mut impl Write, n: usize, number: u64) -> io::Result<()> {
     match number {
-        0 => {}
-        _ => say(n, number, 0, 0),
+        0 => Ok(()),
+        _ => say(to, n, number, 0, 0),
     }
 }
 
 // Writes the phrase, if it is so.
-pub fn say_if(is_so: bool, n: usize) {
+pub fn say_if(to: &mut impl Write, is_so: bool, n: usize) -> io::Result<()> {
     match is_so {
-        true => say(n, 0, 0, 0),
-        false => {}
+        true => say(to, n, 0, 0, 0),
+        false => Ok(()),
     }
 }

@@ -1,10 +1,13 @@
 // A loan goes from a desk to its chip, both of them in one program. What to copy is in turn.rt.
 #![tactic(auto)]
+
 mod turn;
 
 use base::buffer::part;
 use chain::Joining;
 use state::Outcome;
+use std::io;
+use std::io::Write;
 use text::lay;
 use turn::{FRAME, ROOM, SLOTS, Turn};
 
@@ -32,10 +35,11 @@ const WHOLE: usize = 8;
 
 const WRONG: usize = 9;
 
-fn tell(what: usize, ms: u32, number: u16) {
+fn tell(to: &mut impl Write, what: usize, ms: u32, number: u16) -> io::Result<()> {
     match number {
-        0 => {}
+        0 => Ok(()),
         _ => lay::write_chosen(
+            to,
             b"[%] the desk answers %\n|[%] the desk gets % bytes\n|[%] the desk sends % bytes\n|[%] the chip answers %\n|[%] the chip gets % bytes\n|[%] the chip sends % bytes\n|[%] % bytes are lost on the way\n|[%] joining answers %\n|[%] the chip has the loan, % bytes, as it was sent\n|[%] the chip has a message of % bytes that nobody sent\n",
             what,
             ms as u64,
@@ -45,33 +49,46 @@ fn tell(what: usize, ms: u32, number: u16) {
     }
 }
 
-fn tell_turn(who: usize, ms: u32, o: Outcome) {
-    tell(who, ms, o.answer as u16);
-    tell(std::num::wrapping_add_usize(who, 1), ms, o.delivered);
-    tell(std::num::wrapping_add_usize(who, 2), ms, o.sent);
+fn tell_turn(to: &mut impl Write, who: usize, ms: u32, o: Outcome) -> io::Result<()> {
+    tell(to, who, ms, o.answer as u16)?;
+    tell(to, std::num::wrapping_add_usize(who, 1), ms, o.delivered)?;
+    tell(to, std::num::wrapping_add_usize(who, 2), ms, o.sent)
 }
 
-fn carried(frame: &[u8; FRAME], sent: u16, ms: u32) -> &[u8] {
+fn carried<'a>(
+    to: &mut impl Write,
+    frame: &'a [u8; FRAME],
+    sent: u16,
+    ms: u32,
+) -> io::Result<&'a [u8]> {
     match std::num::wrapping_sub_u32(ms, NOISE) < NOISY {
         true => {
-            tell(LOST, ms, sent);
-            part(frame, 0, 0)
+            tell(to, LOST, ms, sent)?;
+            Ok(part(frame, 0, 0))
         }
-        false => part(frame, 0, sent as usize),
+        false => Ok(part(frame, 0, sent as usize)),
     }
 }
 
-fn joined_by(j: Joining, t: Turn, received: &[u8], room: &mut [u8; ROOM], ms: u32) -> Joining {
+fn joined_by(
+    to: &mut impl Write,
+    j: Joining,
+    t: Turn,
+    received: &[u8],
+    room: &mut [u8; ROOM],
+    ms: u32,
+) -> io::Result<Joining> {
     let joined = turn::join(j, t, received, room);
-    tell(JOINED, ms, joined.answer as u16);
-    match check::same(part(room, 0, joined.length as usize), &LOAN) {
-        true => tell(WHOLE, ms, joined.length),
-        false => tell(WRONG, ms, joined.length),
+    tell(to, JOINED, ms, joined.answer as u16)?;
+    match part(room, 0, joined.length as usize) == LOAN.as_slice() {
+        true => tell(to, WHOLE, ms, joined.length)?,
+        false => tell(to, WRONG, ms, joined.length)?,
     }
-    joined.state
+    Ok(joined.state)
 }
 
-fn main() {
+fn main(rt: HostRuntime) -> io::Result<()> {
+    let mut to = io::writer(&rt);
     let mut desk_slots = [0u8; SLOTS];
     let mut chip_slots = [0u8; SLOTS];
     let mut desk_frame = [0u8; FRAME];
@@ -86,8 +103,8 @@ fn main() {
     let mut joining = chain::fresh_joining();
     while 0 < turns {
         turns -= 1;
-        tell_turn(DESK, ms, desk.last);
-        let to_chip = carried(&desk_frame, desk.last.sent, ms);
+        tell_turn(&mut to, DESK, ms, desk.last)?;
+        let to_chip = carried(&mut to, &desk_frame, desk.last.sent, ms)?;
         chip = turn::serve(
             chip,
             &mut chip_slots,
@@ -97,9 +114,9 @@ fn main() {
             b"",
             joining.opened,
         );
-        tell_turn(CHIP, ms, chip.last);
-        joining = joined_by(joining, chip, to_chip, &mut room, ms);
-        let to_desk = carried(&chip_frame, chip.last.sent, ms);
+        tell_turn(&mut to, CHIP, ms, chip.last)?;
+        joining = joined_by(&mut to, joining, chip, to_chip, &mut room, ms)?;
+        let to_desk = carried(&mut to, &chip_frame, chip.last.sent, ms)?;
         ms = std::num::wrapping_add_u32(ms, 10);
         desk = turn::serve(
             desk,
@@ -111,4 +128,5 @@ fn main() {
             false,
         );
     }
+    Ok(())
 }

@@ -1,6 +1,7 @@
 // Two ends of the link, the desk and the chip, the frames on their way between them, and one clock. Nothing is told here: each move
 // returns what came of it as a small value. Nothing is required of a caller: an end's number that is not DESK is the chip's.
 #![tactic(auto)]
+
 pub mod hearing;
 pub mod line;
 pub mod moves;

@@ -109,20 +109,15 @@ pub fn without_first(e: End) -> End {
 fn move_bytes(store: &mut Store, from: usize, to: usize)
     requires { (from ≤ 134398) × (to ≤ 134398) }
 {
-    let mut i: usize = 0;
-    while i < PLACE {
+    for i in 0..PLACE {
         store[to + i] = store[from + i];
-        i += 1;
     }
 }
 
 // The frames behind frame n move up by a place.
 fn close_up(store: &mut Store, end: usize, first: usize, n: usize, last: usize) {
-    let mut k = n;
-    while k < last {
-        let to = place_of(end, first, k);
-        k += 1;
-        move_bytes(store, place_of(end, first, k), to);
+    for k in n..last {
+        move_bytes(store, place_of(end, first, k + 1), place_of(end, first, k));
     }
 }
 

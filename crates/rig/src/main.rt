@@ -1,5 +1,8 @@
 // Reads a script of calls on one end of the link and on one joining, and prints a line for each call: docs/RIG.md.
 #![tactic(auto)]
-fn main() {
-    script::run(false);
+
+use std::io;
+
+fn main(rt: HostRuntime) -> io::Result<()> {
+    script::run(&rt, false)
 }

@@ -6,6 +6,8 @@ use crate::session::{CHAINING, Command, ROOM, Room, Session, UNSENT, UNWRITTEN};
 use crate::{printing, session};
 use base::buffer::part;
 use chain::{Joined, Joining, Piece};
+use std::io;
+use std::io::Write;
 use text::field::{BYTES, FLAG, Form, U16, U32, Values, flag_at, number_at, u16_at, u32_at};
 use text::{field, least};
 
@@ -86,7 +88,7 @@ fn joining_of(v: Values) -> Joining {
 // ---- join
 
 // Of a worked line the room is not told.
-fn print_join(j: Joined, room: &[u8], is_worked: bool) {
+fn print_join(to: &mut impl Write, j: Joined, room: &[u8], is_worked: bool) -> io::Result<()> {
     let state = j.state;
     let numbers = [
         j.answer as u64,
@@ -96,45 +98,70 @@ fn print_join(j: Joined, room: &[u8], is_worked: bool) {
         state.length as u64,
     ];
     match is_worked {
-        true => printing::say(b"% % % % %\n", &numbers),
-        false => printing::say_bytes(b"% % % % %", &numbers, room),
+        true => printing::say(to, b"% % % % %\n", &numbers),
+        false => printing::say_bytes(to, b"% % % % %", &numbers, room),
     }
 }
 
-fn join(v: Values, bytes: &[u8], room: &mut [u8], s: Session) -> Session {
+fn join(
+    to: &mut impl Write,
+    v: Values,
+    bytes: &[u8],
+    room: &mut [u8],
+    s: Session,
+) -> io::Result<Session> {
     let size = least(s.room, room.len());
     let j = chain::join(u16_at(v, 0), s.joining, bytes, &mut room[0..size]);
-    print_join(j, part(room, 0, size), s.is_worked);
-    with_joining(s, j.state)
+    print_join(to, j, part(room, 0, size), s.is_worked)?;
+    Ok(with_joining(s, j.state))
 }
 
 // ---- cut
 
 // Of a worked line the packet is told, else the whole buffer.
-fn print_cut(p: Piece, packet: &[u8], size: usize, is_worked: bool) {
+fn print_cut(
+    to: &mut impl Write,
+    p: Piece,
+    packet: &[u8],
+    size: usize,
+    is_worked: bool,
+) -> io::Result<()> {
     let numbers = [p.answer as u64, p.length as u64, p.count as u64];
     let told = match is_worked {
         true => p.length as usize,
         false => size,
     };
-    printing::say_bytes(b"% % %", &numbers, part(packet, 0, told));
+    printing::say_bytes(to, b"% % %", &numbers, part(packet, 0, told))
 }
 
-fn cut(v: Values, bytes: &[u8], packet: &mut [u8], is_worked: bool) {
+fn cut(
+    to: &mut impl Write,
+    v: Values,
+    bytes: &[u8],
+    packet: &mut [u8],
+    is_worked: bool,
+) -> io::Result<()> {
     let size = least(number_at(v, 2) as usize, packet.len());
     let p = chain::cut(u16_at(v, 0), bytes, u32_at(v, 1), &mut packet[0..size]);
-    print_cut(p, packet, size, is_worked);
+    print_cut(to, p, packet, size, is_worked)
 }
 
 // ---- every command
 
 // Does what the command says.
-pub fn act(word: usize, v: Values, bytes: &[u8], room: &mut Room, s: Session) -> Session {
+pub fn act(
+    to: &mut impl Write,
+    word: usize,
+    v: Values,
+    bytes: &[u8],
+    room: &mut Room,
+    s: Session,
+) -> io::Result<Session> {
     match word {
-        JOIN => return join(v, bytes, room, s),
-        CUT => cut(v, bytes, &mut [UNSENT; PACKET], s.is_worked),
-        SET_ROOM => return set_room(v, room, s),
-        _ => return with_joining(s, joining_of(v)),
+        JOIN => return join(to, v, bytes, room, s),
+        CUT => cut(to, v, bytes, &mut [UNSENT; PACKET], s.is_worked)?,
+        SET_ROOM => return Ok(set_room(v, room, s)),
+        _ => return Ok(with_joining(s, joining_of(v))),
     }
-    s
+    Ok(s)
 }

@@ -3,6 +3,8 @@ use crate::session::{Command, FRAMES};
 use crate::{printing, session};
 use base::buffer::part;
 use frame::{Format, Heard};
+use std::io;
+use std::io::Write;
 use text::field::{BYTES, Form, U8, U16, Values, u8_at, u16_at};
 use text::{field, heard, lay};
 
@@ -40,11 +42,11 @@ pub fn command(text: &[u8]) -> Command {
 // ---- checksum
 
 // Without the space that stands before bytes.
-fn print_sum(sum: u16) {
+fn print_sum(to: &mut impl Write, sum: u16) -> io::Result<()> {
     let mut out = [0u8; 5];
-    lay::add_hex(&mut out, 0, &[(sum / 256) as u8, (sum % 256) as u8]);
-    lay::write(part(&out, 1, 4));
-    lay::write(b"\n");
+    lay::add_hex(to, &mut out, 0, &[(sum / 256) as u8, (sum % 256) as u8])?;
+    lay::write(to, part(&out, 1, 4))?;
+    lay::write(to, b"\n")
 }
 
 // ---- hear
@@ -69,25 +71,25 @@ fn length_of(h: Heard) -> u64 {
     }
 }
 
-fn print_length(length: u64) {
+fn print_length(to: &mut impl Write, length: u64) -> io::Result<()> {
     match length {
-        0 => lay::write(b"\n"),
-        _ => printing::say(b", % bytes\n", &[length]),
+        0 => lay::write(to, b"\n"),
+        _ => printing::say(to, b", % bytes\n", &[length]),
     }
 }
 
-fn print_heard(h: Heard) {
-    lay::write_chosen(b"% ", 0, frame::refusal(h) as u64, 0, 0);
-    heard::write_heard(h);
-    print_length(length_of(h));
+fn print_heard(to: &mut impl Write, h: Heard) -> io::Result<()> {
+    lay::write_chosen(to, b"% ", 0, frame::refusal(h) as u64, 0, 0)?;
+    heard::write_heard(to, h)?;
+    print_length(to, length_of(h))
 }
 
 // ---- every command
 
 // Does what the command says.
-pub fn act(word: usize, v: Values, bytes: &[u8]) {
+pub fn act(to: &mut impl Write, word: usize, v: Values, bytes: &[u8]) -> io::Result<()> {
     match word {
-        CHECKSUM => print_sum(fcs::checksum(bytes)),
-        _ => print_heard(frame::hear(format_of(v), bytes)),
+        CHECKSUM => print_sum(to, fcs::checksum(bytes)),
+        _ => print_heard(to, frame::hear(format_of(v), bytes)),
     }
 }

@@ -1,5 +1,6 @@
 // A script of calls on one end of the link and on one joining (docs/RIG.md), line by line.
 #![tactic(auto)]
+
 mod chaining;
 mod frames;
 mod linking;
@@ -10,10 +11,12 @@ use base::buffer::part;
 use session::{
     BAD, BUFFER, CHAINING, Command, FRAMES, LINKING, NO_LINE, ROOM, Room, SILENT, Session, Slots,
 };
+use std::io;
+use std::io::{Read, Write};
 use text::field::{Fields, MOST_BYTES};
-use text::input::{INPUT, Input};
+use text::input::INPUT;
 use text::lines::Reader;
-use text::{field, lay, lines};
+use text::{field, input, lay, lines};
 
 // ---- what a line asks for
 
@@ -53,78 +56,103 @@ fn read(line: &[u8], c: Command, bytes: &mut [u8]) -> Fields {
 
 // ---- what it prints whatever it does
 
-fn echo(line: &[u8], is_call: bool) {
-    lay::write(line);
+fn echo(to: &mut impl Write, line: &[u8], is_call: bool) -> io::Result<()> {
+    lay::write(to, line)?;
     match is_call {
-        true => lay::write(b" -> "),
-        false => lay::write(b"\n"),
+        true => lay::write(to, b" -> "),
+        false => lay::write(to, b"\n"),
     }
 }
 
 // What stands before a call's answer, and all that a line prints that is no call.
-fn begin(line: &[u8], number: u64, c: Command, good: bool, is_worked: bool) {
+fn begin(
+    to: &mut impl Write,
+    line: &[u8],
+    number: u64,
+    c: Command,
+    good: bool,
+    is_worked: bool,
+) -> io::Result<()> {
     match good {
         true => match is_worked & (c.owner != NO_LINE) {
-            true => echo(line, c.is_call),
-            false => {}
+            true => echo(to, line, c.is_call),
+            false => Ok(()),
         },
-        false => printing::say(b"bad line %\n", &[number]),
+        false => printing::say(to, b"bad line %\n", &[number]),
     }
 }
 
 // ---- what it does
 
 fn act(
+    to: &mut impl Write,
     c: Command,
     f: Fields,
     bytes: &[u8],
     slots: &mut Slots,
     room: &mut Room,
     s: Session,
-) -> Session {
+) -> io::Result<Session> {
     let v = f.values;
     let owner = if f.good { c.owner } else { BAD };
     match owner {
-        LINKING => return linking::act(c.word, v, bytes, slots, s),
-        CHAINING => return chaining::act(c.word, v, bytes, room, s),
-        FRAMES => frames::act(c.word, v, bytes),
+        LINKING => return linking::act(to, c.word, v, bytes, slots, s),
+        CHAINING => return chaining::act(to, c.word, v, bytes, room, s),
+        FRAMES => frames::act(to, c.word, v, bytes)?,
         _ => {}
     }
-    s
+    Ok(s)
 }
 
 // ---- all lines
 
-fn obey(input: &Input, r: Reader, slots: &mut Slots, room: &mut Room, s: Session) -> Session {
+fn obey(
+    to: &mut impl Write,
+    input: &input::Input,
+    r: Reader,
+    slots: &mut Slots,
+    room: &mut Room,
+    s: Session,
+) -> io::Result<Session> {
     let mut bytes = [0u8; MOST_BYTES];
     let line = lines::line_of(input, r);
     let c = command(line, r, s.is_worked);
     let f = read(line, c, &mut bytes);
-    begin(line, r.number, c, f.good, s.is_worked);
-    act(c, f, part(&bytes, 0, f.count), slots, room, s)
+    begin(to, line, r.number, c, f.good, s.is_worked)?;
+    act(to, c, f, part(&bytes, 0, f.count), slots, room, s)
 }
 
-fn all_lines(input: &mut Input, slots: &mut Slots, room: &mut Room, s: Session) {
+fn all_lines(
+    source: &mut impl Read,
+    to: &mut impl Write,
+    input: &mut input::Input,
+    slots: &mut Slots,
+    room: &mut Room,
+    s: Session,
+) -> io::Result<()> {
     let mut k = s;
     let mut r = lines::beginning();
     let mut turns = lines::TURNS;
     while 0 < turns {
-        r = lines::next(input, r);
-        k = obey(input, r, slots, room, k);
+        r = lines::next(source, input, r)?;
+        k = obey(to, input, r, slots, room, k)?;
         turns = lines::turns_left(r, turns);
     }
+    Ok(())
 }
 
 // Reads a script on standard input and prints what its lines give; worked (R10.13): each line again, with what it
 // gives behind an arrow.
-pub fn run(is_worked: bool) {
+pub fn run(rt: &(impl Input + Print), is_worked: bool) -> io::Result<()> {
     let mut input = [0u8; INPUT];
     let mut slots = [0u8; BUFFER];
     let mut room = [0u8; ROOM];
     all_lines(
+        &mut rt.reader(),
+        &mut io::writer(rt),
         &mut input,
         &mut slots,
         &mut room,
         session::beginning(is_worked),
-    );
+    )
 }

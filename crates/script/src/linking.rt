@@ -7,6 +7,8 @@ use crate::{printing, session};
 use base::buffer::part;
 use link::chosen;
 use state::{Link, Outcome};
+use std::io;
+use std::io::Write;
 use text::field::{
     BYTES, FLAG, Form, U8, U16, U32, Values, flag_at, number_at, u8_at, u16_at, u32_at,
 };
@@ -199,51 +201,82 @@ fn numbers_of(o: Outcome) -> [u64; 22] {
 }
 
 // All that a call leaves.
-fn print_all(o: Outcome, slots: &[u8], frame: &[u8]) {
+fn print_all(to: &mut impl Write, o: Outcome, slots: &[u8], frame: &[u8]) -> io::Result<()> {
     let head = b"% % % % % % % % % % % % % % % % % % % % % %";
     let order = o.state.settings.format.order;
-    printing::say_both(head, &numbers_of(o), slots, frame, b" %\n", order as u64);
+    printing::say_both(
+        to,
+        head,
+        &numbers_of(o),
+        slots,
+        frame,
+        b" %\n",
+        order as u64,
+    )
 }
 
 // The delivered packet is the received frame's bytes from byte 3 on.
-fn print_worked(o: Outcome, bytes: &[u8], frame: &[u8]) {
+fn print_worked(to: &mut impl Write, o: Outcome, bytes: &[u8], frame: &[u8]) -> io::Result<()> {
     printing::say_both(
+        to,
         b"%",
         &[o.answer as u64],
         part(frame, 0, o.sent as usize),
         part(bytes, 3, o.delivered as usize),
         b" %\n",
         o.dropped as u64,
-    );
+    )
 }
 
-fn print(o: Outcome, bytes: &[u8], slots: &[u8], frame: &[u8], is_worked: bool) {
+fn print(
+    to: &mut impl Write,
+    o: Outcome,
+    bytes: &[u8],
+    slots: &[u8],
+    frame: &[u8],
+    is_worked: bool,
+) -> io::Result<()> {
     match is_worked {
-        true => print_worked(o, bytes, frame),
-        false => print_all(o, slots, frame),
+        true => print_worked(to, o, bytes, frame),
+        false => print_all(to, o, slots, frame),
     }
 }
 
 // ---- every command
 
-fn call(word: usize, v: Values, bytes: &[u8], slots: &mut Slots, s: Session) -> Session {
+fn call(
+    to: &mut impl Write,
+    word: usize,
+    v: Values,
+    bytes: &[u8],
+    slots: &mut Slots,
+    s: Session,
+) -> io::Result<Session> {
     let mut frame = [UNSENT; BUFFER];
     let o = called(word, v, slots, &mut frame, bytes, s);
     print(
+        to,
         o,
         bytes,
         part(slots, 0, s.slots),
         part(&frame, 0, s.frame),
         s.is_worked,
-    );
-    with_link(s, o.state)
+    )?;
+    Ok(with_link(s, o.state))
 }
 
 // Does what the command says.
-pub fn act(word: usize, v: Values, bytes: &[u8], slots: &mut Slots, s: Session) -> Session {
+pub fn act(
+    to: &mut impl Write,
+    word: usize,
+    v: Values,
+    bytes: &[u8],
+    slots: &mut Slots,
+    s: Session,
+) -> io::Result<Session> {
     match word {
-        LEND => lend(v, slots, s),
-        STATE => with_link(s, link_of(v)),
-        _ => call(word, v, bytes, slots, s),
+        LEND => Ok(lend(v, slots, s)),
+        STATE => Ok(with_link(s, link_of(v))),
+        _ => call(to, word, v, bytes, slots, s),
     }
 }

@@ -1,7 +1,7 @@
 // A line's fields: numbers in decimal digits, and bytes in hexadecimal ones.
 ghost use Rattle.std.specs.Prelude.{◌<◌, ◌≤◌, length};
 
-use crate::least;
+use crate::{find, least};
 use base::buffer::copy_at;
 
 pub const MOST_BYTES: usize = 8192;
@@ -226,7 +226,7 @@ fn some_text(line: &[u8], from: usize, bytes: &mut [u8]) -> Field
 fn end_name(line: &[u8], from: usize) -> Field
     requires { from ≤ length line.now }
 {
-    let end = bytes::scan::find(line, from, line.len(), SPACE);
+    let end = find(line, from, line.len(), SPACE);
     let place = place_of(&line[from..end], b"desk chip");
     Field {
         value: place as u64,
@@ -301,7 +301,7 @@ pub fn read_form(line: &[u8], at: usize, table: &[u64], form: Form, bytes: &mut 
 pub fn word_end(line: &[u8]) -> usize
     ensures { result ≤ length line.now }
 {
-    bytes::scan::find(line, 0, line.len(), SPACE)
+    find(line, 0, line.len(), SPACE)
 }
 
 // Which of the words, apart by one space each, this one is, from 0 on; none of them is how many they are.
@@ -309,8 +309,8 @@ pub fn place_of(word: &[u8], words: &[u8]) -> usize {
     let mut n: usize = 0;
     let mut i: usize = 0;
     while i < words.len() {
-        let end = bytes::scan::find(words, i, words.len(), SPACE);
-        if check::same(word, &words[i..end]) {
+        let end = find(words, i, words.len(), SPACE);
+        if word == &words[i..end] {
             return n;
         }
         i = end + 1;

@@ -2,6 +2,8 @@
 use crate::lay;
 use base::answer;
 use frame::{Format, Heard};
+use std::io;
+use std::io::Write;
 
 // A place in the list of names, and the numbers that stand in the name.
 #[derive(Clone, Copy)]
@@ -43,39 +45,41 @@ fn name_of(h: Heard) -> Name {
 }
 
 // Writes what was heard: `data 0 ack 3`, `ack 0`, `nak 0`, `reset`, or which of steps 1 to 4 refuses.
-pub fn write_heard(h: Heard) {
+pub fn write_heard(to: &mut impl Write, h: Heard) -> io::Result<()> {
     let n = name_of(h);
     lay::write_chosen(
+        to,
         b"size|checksum|code|control|length|reset|ack %|nak %|data % ack %|data % nak %",
         n.place,
         n.first as u64,
         n.second as u64,
         0,
-    );
+    )
 }
 
 // `noise` where step 1 refuses it; where a later step does, its size and its checksum are right: `a wrong frame`.
-fn write_refused(refusal: u8, size: usize) {
+fn write_refused(to: &mut impl Write, refusal: u8, size: usize) -> io::Result<()> {
     let place = match refusal {
         answer::FRAME_SIZE => 0,
         answer::FRAME_SUM => 0,
         _ => 1,
     };
     lay::write_chosen(
+        to,
         b"noise (% bytes)|a wrong frame (% bytes)",
         place,
         size as u64,
         0,
         0,
-    );
+    )
 }
 
 // Writes what an end with that format hears in the frame.
-pub fn write_frame(format: Format, frame: &[u8]) {
+pub fn write_frame(to: &mut impl Write, format: Format, frame: &[u8]) -> io::Result<()> {
     let heard = frame::hear(format, frame);
     let refusal = frame::refusal(heard);
     match refusal {
-        answer::DONE => write_heard(heard),
-        _ => write_refused(refusal, frame.len()),
+        answer::DONE => write_heard(to, heard),
+        _ => write_refused(to, refusal, frame.len()),
     }
 }

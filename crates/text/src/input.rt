@@ -1,7 +1,8 @@
-// Standard input, a piece at a time.
-ghost use Rattle.std.specs.Prelude.{◌≤◌, length};
+// Input, a piece at a time.
+ghost use Rattle.std.specs.Prelude.{◌≤◌, IfOk, length};
 
-use libc::STDIN_FILENO;
+use std::io;
+use std::io::Read;
 
 // A piece of this size is read as fast as one that is larger.
 pub const INPUT: usize = 65536;
@@ -9,9 +10,8 @@ pub const INPUT: usize = 65536;
 pub type Input = [u8; INPUT];
 
 // How many bytes one read put at the front of `buffer`: 0 where the input has ended.
-pub fn read(buffer: &mut [u8]) -> usize
-    ensures { result ≤ length buffer.new }
+pub fn read(source: &mut impl Read, buffer: &mut [u8]) -> io::Result<usize>
+    ensures { IfOk result (λ n. n ≤ length buffer.new) }
 {
-    let got = libc::read(STDIN_FILENO, buffer);
-    io::count(got, buffer)
+    source.read(buffer)
 }

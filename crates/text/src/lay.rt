@@ -1,10 +1,12 @@
-// Text for standard output. It is laid into a lent array from an index on, and each function gives the index past what it laid. Where the
+// Text for output. It is laid into a lent array from an index on, and each function gives the index past what it laid. Where the
 // array is full, what was laid is written and laying goes on at its front: nothing is left out, however short the array.
 ghost use Rattle.std.specs.Prelude.{◌<◌, ◌≤◌, length};
 
-use crate::least;
+use crate::{find, least};
 use base::buffer::part;
-use libc::STDOUT_FILENO;
+use itoa::Buffer;
+use std::io;
+use std::io::Write;
 
 // Stands in a template for the next number.
 const MARK: u8 = 37;
@@ -20,40 +22,39 @@ const LINE: usize = 512;
 
 // ---- text
 
-// Writes the first `at` bytes to standard output.
-pub fn write_out(out: &[u8], at: usize) {
+// Writes the first `at` bytes.
+pub fn write_out(to: &mut impl Write, out: &[u8], at: usize) -> io::Result<()> {
     let count = least(at, out.len());
-    io::write_all(STDOUT_FILENO, &out[0..count]);
+    to.write_all(&out[0..count])
 }
 
 // A text that the whole array cannot hold is written by itself.
-fn add_anew(out: &mut [u8], text: &[u8]) -> usize {
+fn add_anew(to: &mut impl Write, out: &mut [u8], text: &[u8]) -> io::Result<usize> {
     if out.len() < text.len() {
-        io::write_all(STDOUT_FILENO, text);
-        return 0;
+        to.write_all(text)?;
+        return Ok(0);
     }
     base::buffer::copy_at(out, 0, text);
-    text.len()
+    Ok(text.len())
 }
 
 // Lays a text.
-pub fn add(out: &mut [u8], at: usize, text: &[u8]) -> usize {
+pub fn add(to: &mut impl Write, out: &mut [u8], at: usize, text: &[u8]) -> io::Result<usize> {
     if at <= out.len() {
         if text.len() <= out.len() - at {
             base::buffer::copy_at(out, at, text);
-            return at + text.len();
+            return Ok(at + text.len());
         }
     }
-    write_out(out, at);
-    add_anew(out, text)
+    write_out(to, out, at)?;
+    add_anew(to, out, text)
 }
 
 // ---- numbers
 
-fn add_digits(out: &mut [u8], at: usize, number: u64) -> usize {
-    let mut digits = [0u8; 20];
-    let count = io::decimal(number, &mut digits);
-    add(out, at, &digits[..count])
+fn add_digits(to: &mut impl Write, out: &mut [u8], at: usize, number: u64) -> io::Result<usize> {
+    let mut digits = Buffer::new();
+    add(to, out, at, digits.format(number).as_bytes())
 }
 
 // A mark has a number; 0 where a template has more marks than that.
@@ -65,28 +66,42 @@ fn nth(numbers: &[u64], n: usize) -> u64 {
 }
 
 // The template's text from i up to the mark at `end`, and that mark's number; there is none at the template's end.
-fn add_part(out: &mut [u8], at: usize, template: &[u8], i: usize, end: usize, number: u64) -> usize
+fn add_part(
+    to: &mut impl Write,
+    out: &mut [u8],
+    at: usize,
+    template: &[u8],
+    i: usize,
+    end: usize,
+    number: u64,
+) -> io::Result<usize>
     requires { (i ≤ end) × (end ≤ length template.now) }
 {
-    let next = add(out, at, &template[i..end]);
+    let next = add(to, out, at, &template[i..end])?;
     if end < template.len() {
-        return add_digits(out, next, number);
+        return add_digits(to, out, next, number);
     }
-    next
+    Ok(next)
 }
 
 // Lays the template, each `%` of it as the next number in decimal digits.
-pub fn add_filled(out: &mut [u8], at: usize, template: &[u8], numbers: &[u64]) -> usize {
+pub fn add_filled(
+    to: &mut impl Write,
+    out: &mut [u8],
+    at: usize,
+    template: &[u8],
+    numbers: &[u64],
+) -> io::Result<usize> {
     let mut next = at;
     let mut n: usize = 0;
     let mut i: usize = 0;
     while i < template.len() {
-        let end = bytes::scan::find(template, i, template.len(), MARK);
-        next = add_part(out, next, template, i, end, nth(numbers, n));
+        let end = find(template, i, template.len(), MARK);
+        next = add_part(to, out, next, template, i, end, nth(numbers, n))?;
         i = end + 1;
         n += 1;
     }
-    next
+    Ok(next)
 }
 
 // Where text n of the texts, apart by `|`, begins.
@@ -94,27 +109,39 @@ fn start_of(texts: &[u8], n: usize) -> usize
     ensures { result ≤ length texts.now }
 {
     let mut i: usize = 0;
-    let mut k: usize = 0;
-    while k < n {
+    for _ in 0..n {
         let from = least(i, texts.len());
-        i = bytes::scan::find(texts, from, texts.len(), BAR) + 1;
-        k += 1;
+        i = find(texts, from, texts.len(), BAR) + 1;
     }
     least(i, texts.len())
 }
 
 // Lays template n, from 0 on, of the templates apart by `|`. To choose a number and lay once takes less proof than a call for each.
-fn add_chosen(out: &mut [u8], at: usize, templates: &[u8], n: usize, numbers: &[u64]) -> usize {
+fn add_chosen(
+    to: &mut impl Write,
+    out: &mut [u8],
+    at: usize,
+    templates: &[u8],
+    n: usize,
+    numbers: &[u64],
+) -> io::Result<usize> {
     let start = start_of(templates, n);
-    let end = bytes::scan::find(templates, start, templates.len(), BAR);
-    add_filled(out, at, &templates[start..end], numbers)
+    let end = find(templates, start, templates.len(), BAR);
+    add_filled(to, out, at, &templates[start..end], numbers)
 }
 
 // Writes template n of the templates apart by `|`, the numbers in place of its `%`.
-pub fn write_chosen(templates: &[u8], n: usize, a: u64, b: u64, c: u64) {
+pub fn write_chosen(
+    to: &mut impl Write,
+    templates: &[u8],
+    n: usize,
+    a: u64,
+    b: u64,
+    c: u64,
+) -> io::Result<()> {
     let mut out = [0u8; LINE];
-    let at = add_chosen(&mut out, 0, templates, n, &[a, b, c]);
-    write_out(&out, at);
+    let at = add_chosen(to, &mut out, 0, templates, n, &[a, b, c])?;
+    write_out(to, &out, at)
 }
 
 // ---- bytes
@@ -133,35 +160,35 @@ fn pair(byte: u8) -> [u8; 2] {
     [glyph(byte / 16), glyph(byte % 16)]
 }
 
-// Buffers are long, and two stores are quicker than `add`.
-fn add_pair(out: &mut [u8], at: usize, pair: [u8; 2]) -> usize {
-    if at < out.len() {
-        if 1 < out.len() - at {
-            out[at] = pair[0];
-            out[at + 1] = pair[1];
-            return at + 2;
-        }
+// Lays two digits if they fit: buffers are long, and two stores are quicker than `add`.
+fn add_pair(out: &mut [u8], at: usize, pair: [u8; 2]) -> Option<usize> {
+    if at < out.len() && 1 < out.len() - at {
+        out[at] = pair[0];
+        out[at + 1] = pair[1];
+        return Some(at + 2);
     }
-    add(out, at, &pair)
+    None
 }
 
-fn add_pairs(out: &mut [u8], at: usize, bytes: &[u8]) -> usize {
+fn add_pairs(to: &mut impl Write, out: &mut [u8], at: usize, bytes: &[u8]) -> io::Result<usize> {
     let mut next = at;
-    let mut i: usize = 0;
-    while i < bytes.len() {
-        next = add_pair(out, next, pair(bytes[i]));
-        i += 1;
+    for byte in bytes {
+        let digits = pair(*byte);
+        next = match add_pair(out, next, digits) {
+            Some(end) => end,
+            None => add(to, out, next, &digits)?,
+        };
     }
-    next
+    Ok(next)
 }
 
 // Lays a space, and bytes in hexadecimal digits, upper case; `-` for none.
-pub fn add_hex(out: &mut [u8], at: usize, bytes: &[u8]) -> usize {
+pub fn add_hex(to: &mut impl Write, out: &mut [u8], at: usize, bytes: &[u8]) -> io::Result<usize> {
     if bytes.len() == 0 {
-        return add(out, at, b" -");
+        return add(to, out, at, b" -");
     }
-    let next = add(out, at, b" ");
-    add_pairs(out, next, bytes)
+    let next = add(to, out, at, b" ")?;
+    add_pairs(to, out, next, bytes)
 }
 
 fn printable(byte: u8) -> u8 {
@@ -174,39 +201,42 @@ fn printable(byte: u8) -> u8 {
     byte
 }
 
-fn add_printable(out: &mut [u8], at: usize, bytes: &[u8]) -> usize {
+fn add_printable(
+    to: &mut impl Write,
+    out: &mut [u8],
+    at: usize,
+    bytes: &[u8],
+) -> io::Result<usize> {
     let mut next = at;
-    let mut i: usize = 0;
-    while i < bytes.len() {
-        next = add(out, next, &[printable(bytes[i])]);
-        i += 1;
+    for byte in bytes {
+        next = add(to, out, next, &[printable(*byte)])?;
     }
-    next
+    Ok(next)
 }
 
 // Writes bytes as characters, and a dot for each that is none.
-pub fn write_printable(bytes: &[u8]) {
+pub fn write_printable(to: &mut impl Write, bytes: &[u8]) -> io::Result<()> {
     let mut out = [0u8; LINE];
-    let at = add_printable(&mut out, 0, bytes);
-    write_out(&out, at);
+    let at = add_printable(to, &mut out, 0, bytes)?;
+    write_out(to, &out, at)
 }
 
 // Of longer bytes that are quoted the beginning will do.
 const QUOTED: usize = 60;
 
 // Writes bytes as characters in quotes; of many the beginning, and two dots.
-pub fn write_quoted(bytes: &[u8]) {
-    write(b"\"");
-    write_printable(part(bytes, 0, least(bytes.len(), QUOTED)));
+pub fn write_quoted(to: &mut impl Write, bytes: &[u8]) -> io::Result<()> {
+    write(to, b"\"")?;
+    write_printable(to, part(bytes, 0, least(bytes.len(), QUOTED)))?;
     match QUOTED < bytes.len() {
-        true => write(b"\".."),
-        false => write(b"\""),
+        true => write(to, b"\".."),
+        false => write(to, b"\""),
     }
 }
 
 // ---- whole texts
 
 // Writes a text.
-pub fn write(text: &[u8]) {
-    io::write_all(STDOUT_FILENO, text);
+pub fn write(to: &mut impl Write, text: &[u8]) -> io::Result<()> {
+    to.write_all(text)
 }

@@ -1,5 +1,6 @@
-// What the programs share: standard input and its lines, a line's fields, and text for standard output.
+// What the programs share: input and its lines, a line's fields, and text for output.
 #![tactic(auto)]
+
 pub mod field;
 pub mod heard;
 pub mod input;
@@ -7,11 +8,22 @@ pub mod lay;
 pub mod lines;
 pub mod settings;
 
-ghost use Rattle.std.specs.Prelude.{◌≤◌};
+ghost use Rattle.std.specs.Prelude.{◌≤◌, length};
 
 // The lesser of two counts.
 pub fn least(a: usize, b: usize) -> usize
     ensures { (result ≤ a) × (result ≤ b) }
 {
     if a < b { a } else { b }
+}
+
+// Where the byte first stands from `from` on and before `to`, else `to`.
+fn find(bytes: &[u8], from: usize, to: usize, byte: u8) -> usize
+    requires { (from ≤ to) × (to ≤ length bytes.now) }
+    ensures { (from ≤ result) × (result ≤ to) }
+{
+    match memchr::memchr(byte, &bytes[from..to]) {
+        Some(n) => from + n,
+        None => to,
+    }
 }

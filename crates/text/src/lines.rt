@@ -1,9 +1,11 @@
-// Standard input, line by line, in no more memory than one buffer.
-ghost use Rattle.std.specs.Prelude.{◌≡◌, ◌+◌, ◌<◌, ◌≤◌, length};
+// Input, line by line, in no more memory than one buffer.
+ghost use Rattle.std.specs.Prelude.{◌≡◌, ◌+◌, ◌<◌, ◌≤◌, IfOk, length};
 
 use crate::input::{INPUT, Input};
-use crate::{input, least};
+use crate::{find, input, least};
 use base::buffer::part;
+use std::io;
+use std::io::Read;
 
 // A longer line is dropped as it is read.
 pub const LONGEST: usize = 20000;
@@ -105,22 +107,18 @@ fn none_given(r: Reader) -> Reader
 
 // ---- reading
 
-fn read_behind(input: &mut [u8], kept: usize) -> usize
+fn read_behind(source: &mut impl Read, input: &mut [u8], kept: usize) -> io::Result<usize>
     requires { kept ≤ length input.old }
-    ensures { kept + result ≤ length input.new }
+    ensures { IfOk result (λ n. kept + n ≤ length input.new) }
 {
-    input::read(&mut input[kept..])
+    input::read(source, &mut input[kept..])
 }
 
 // Moves the bytes from `from` up to `to` to the front.
 fn move_to_front(input: &mut [u8], from: usize, to: usize)
     requires { (from ≤ to) × (to ≤ length input.old) }
 {
-    let mut i = from;
-    while i < to {
-        input[i - from] = input[i];
-        i += 1;
-    }
+    input.copy_within(from..to, 0);
 }
 
 // The line that has not ended goes to the front; of one that is too long nothing stays.
@@ -153,34 +151,40 @@ fn finished(r: Reader) -> Reader
 }
 
 // One read behind the line that has not ended, and perhaps the last line: a read that brings nothing is the input's end.
-fn read_more(input: &mut Input, from: usize, count: usize, r: Reader) -> Reader
+fn read_more(
+    source: &mut impl Read,
+    input: &mut Input,
+    from: usize,
+    count: usize,
+    r: Reader,
+) -> io::Result<Reader>
     requires { (from ≤ count) × (count ≤ 65536) }
-    ensures { (result.start ≤ result.end) × (result.end ≤ 65536) }
+    ensures { IfOk result (λ k. (k.start ≤ k.end) × (k.end ≤ 65536)) }
 {
     let k = keep(input, from, count, r);
     let kept = k.count;
-    let got = read_behind(input, kept);
+    let got = read_behind(source, input, kept)?;
     if got == 0 {
-        return finished(k);
+        return Ok(finished(k));
     }
     let mut more = none_given(k);
     more.count = kept + got;
-    more
+    Ok(more)
 }
 
 // The next line, if one ends in what was read; else what one read brings. What a reader says is believed no further than the input goes.
-pub fn next(input: &mut Input, r: Reader) -> Reader
-    ensures { (result.start ≤ result.end) × (result.end ≤ 65536) }
+pub fn next(source: &mut impl Read, input: &mut Input, r: Reader) -> io::Result<Reader>
+    ensures { IfOk result (λ k. (k.start ≤ k.end) × (k.end ≤ 65536)) }
 {
     let count = least(r.count, INPUT);
     let from = least(r.from, count);
-    let end = bytes::scan::find(input, from, count, LINE_FEED);
+    let end = find(input, from, count, LINE_FEED);
     if end < count {
         let mut k = given(r, from, end);
         k.from = end + 1;
-        return k;
+        return Ok(k);
     }
-    read_more(input, from, count, r)
+    read_more(source, input, from, count, r)
 }
 
 // ---- all lines
