@@ -17,8 +17,8 @@ use text::input::INPUT;
 use text::lines;
 
 fn main(rt: HostRuntime) -> io::Result<()> {
-    let mut source = rt.reader();
-    let mut to = io::writer(&rt);
+    let mut source = rt.stdin();
+    let mut to = rt.stdout();
     let mut input = [0u8; INPUT];
     let mut store = [0u8; STORE];
     let mut book = [0u8; BOOK];

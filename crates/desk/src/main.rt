@@ -88,7 +88,7 @@ fn joined_by(
 }
 
 fn main(rt: HostRuntime) -> io::Result<()> {
-    let mut to = io::writer(&rt);
+    let mut to = rt.stdout();
     let mut desk_slots = [0u8; SLOTS];
     let mut chip_slots = [0u8; SLOTS];
     let mut desk_frame = [0u8; FRAME];

@@ -5,5 +5,5 @@
 use std::io;
 
 fn main(rt: HostRuntime) -> io::Result<()> {
-    script::run(&rt, true)
+    script::run(&mut rt.stdin(), &mut rt.stdout(), true)
 }

@@ -1,6 +1,5 @@
 -- What hearing cites, and that what was written is heard.
-use Rattle.std.proofs.Common.{◌≡◌, refl, ap, ◌∙◌, Bool, true, false, true≢false, not, ◌&&◌, ◌||◌, List, [], ◌∷◌, ◌++◌, ℕ, zero, suc, ◌+◌, ◌-◌, ◌*◌, ◌/◌, ◌%◌, ◌≤◌, add-one, arith, eqb-true, le-ltb, le-leb, eq-eqb, ne_eqb, length, take, drop, get_or, drop-cons, eqb, ltb}
-use mathlib.Core.Bool.{and-true}
+use Rattle.std.proofs.Common.{◌≡◌, refl, ap, ◌∙◌, Bool, true, false, true≢false, not, ◌&&◌, ◌||◌, List, [], ◌∷◌, ◌++◌, ℕ, zero, suc, ◌+◌, ◌-◌, ◌*◌, ◌/◌, ◌%◌, ◌≤◌, arith, eqb-true, le-ltb, le-leb, eq-eqb, ne_eqb, length, eqb, ltb}
 use borrow.Author.Tests.{not-true, not-false, lt-leb}
 use lib.Seq.{take-append_seam, drop-append_seam}
 use Rattle.base.proofs.Tests.{or_right_false, cond_cases}
@@ -14,15 +13,6 @@ use Rattle.frame.specs.Promises.{DataHeard, AckHeard, NakHeard, ResetHeard, Pack
 use Rattle.frame.proofs.Writing.{sealed-length, frame_of-length}
 
 -- ---- step 1
-
-pub two : (x : List ℕ) (at : ℕ) → at + 2 ≤ length x → take 2 (drop at x) ≡ get_or x at 0 ∷ get_or x (at + 1) 0 ∷ []
-two x at h = rw (drop-cons x at 0 (omega arith), drop-cons x (suc at) 0 (omega arith), add-one)
-
--- two bytes compared one by one
-pub fcs_at-read : (format : Format) (x right : List ℕ) (at sum : ℕ) → at + 2 ≤ length x → sum ≡ checksum_of (take at x) → right ≡ fcs_bytes format sum
-    → (eqb (get_or x at 0) (get_or right 0 0) && eqb (get_or x (at + 1) 0) (get_or right 1 0)) ≡ fcs_at format at x
-unfolding fcs_at
-fcs_at-read format x right at sum h es er = rw (two x at h, er, es, and-true)
 
 same_bytes_refl : (s : List ℕ) → same_bytes s s ≡ true
 same_bytes_refl [] = refl

@@ -1,4 +1,5 @@
 pub mod Writing
+pub mod LastTwo
 pub mod Hearing
 pub mod Reasons
 pub mod Orders

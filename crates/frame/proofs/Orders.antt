@@ -9,7 +9,8 @@ use Rattle.frame.specs.Bytes.{len_bytes, high_first, by_order, fcs_bytes, sealed
 use Rattle.frame.specs.Steps.{fcs_at, judged, heard}
 use Rattle.frame.specs.Orders.{in_other_order, turned, FrameTurned, HeardTurned, OtherOrder, EqualHeard, ResetOther, ZerosHeard}
 use Rattle.frame.proofs.Writing.{sealed-length}
-use Rattle.frame.proofs.Hearing.{two, heard_framed}
+use Rattle.frame.proofs.LastTwo.{two}
+use Rattle.frame.proofs.Hearing.{heard_framed}
 use Rattle.frame.proofs.Reasons.{fault-heard}
 
 -- ---- the two bytes

@@ -33,7 +33,7 @@ use Rattle.clock.specs.Look.{after_oldest, exhausted, served, acknowledged_if, l
 use Rattle.clock.proofs.Facts.{due-waits}
 use Rattle.link.proofs.Kept.{reset_refused}
 use Rattle.link.specs.FalseEnds.{LookCall}
-use Rattle.pair.specs.System as Any
+use Rattle.pair.specs.System as AnyLink
 use Rattle.pair.specs.System.{Harm, IsClock, submit, take_head, look, acknowledge, resynchronise, harm}
 use Rattle.pair.specs.Demand3.{FirstSoMany}
 use Rattle.pair.specs.TrueCalls.{true_calls, with_look, System, sent_by, taken_by, delivered_by, left_by, called, submits, takes, looks, acknowledges, Moment}
@@ -268,8 +268,8 @@ reset_kept s S frame n I =
 -- ---- every move, every moment
 
 -- of the true link, or of one that looks in another way
-move_kept : (call : LookCall) (s : Settings) → InRange s → ((S : System) (frame : List ℕ) (ms : ℕ) → IsClock ms → Inv s S → Inv s (Any.looks (with_look call) S frame ms))
-    → (S T : System) → Any.Move (with_look call) S T → Inv s S → Inv s T
+move_kept : (call : LookCall) (s : Settings) → InRange s → ((S : System) (frame : List ℕ) (ms : ℕ) → IsClock ms → Inv s S → Inv s (AnyLink.looks (with_look call) S frame ms))
+    → (S T : System) → AnyLink.Move (with_look call) S T → Inv s S → Inv s T
 move_kept call s r f S T (submit frame packet ms c) I = submit_kept s S frame packet ms c r I
 move_kept call s r f S T (take_head frame received rest ms c e) I = take_kept s S frame received rest ms c r e I
 move_kept call s r f S T (look frame ms c) I = f S frame ms c I
@@ -278,7 +278,7 @@ move_kept call s r f S T (resynchronise frame n) I = reset_kept s S frame n I
 move_kept call s r f S T (harm queue k) I = inv_harm s S queue (subst (λ (x : Settings). Harm x.format S.here.queue queue) I.here.settings k) I
 
 pub moment_holds_by : (call : LookCall) (s : Settings) (S : System)
-    → (InRange s → (S : System) (frame : List ℕ) (ms : ℕ) → IsClock ms → Inv s S → Inv s (Any.looks (with_look call) S frame ms)) → Any.Moment (with_look call) s S → Inv s S
+    → (InRange s → (S : System) (frame : List ℕ) (ms : ℕ) → IsClock ms → Inv s S → Inv s (AnyLink.looks (with_look call) S frame ms)) → AnyLink.Moment (with_look call) s S → Inv s S
 moment_holds_by call s S f m =
     let r : InRange s = moment_range s S m in
     moment_holds (with_look call) s (Inv s) (inv_swap s) (λ slots slots2 h k. inv_start s slots slots2 r h k) (move_kept call s r (f r)) S m

@@ -12,7 +12,7 @@ use Rattle.send.specs.Submit.{submitted}
 use Rattle.receive.specs.Take.{frame_taken}
 use Rattle.clock.specs.Look.{looked, acknowledged_now}
 use Rattle.link.specs.FalseEnds.{Call, LookCall, Bare, outcome_of}
-use Rattle.pair.specs.System as Any
+use Rattle.pair.specs.System as AnyLink
 use Rattle.pair.specs.System.{Told, Calls}
 use Rattle.pair.specs.Round as AnyRound
 use Rattle.pair.specs.Demand3 as AnyDemand
@@ -54,49 +54,49 @@ StartsFresh = (s : Settings) (slots : ℕ) → (started s slots).answer ≡ done
 -- ---- the names
 
 abbrev pub Side : Type 0
-Side = Any.Side Link
+Side = AnyLink.Side Link
 
 abbrev pub System : Type 0
-System = Any.System Link
+System = AnyLink.System Link
 
 abbrev pub sent_by : After Outcome → List (List ℕ)
-sent_by a = Any.sent_by (read a)
+sent_by a = AnyLink.sent_by (read a)
 
 abbrev pub delivered_by : After Outcome → List ℕ → List (List ℕ)
-delivered_by a = Any.delivered_by (read a)
+delivered_by a = AnyLink.delivered_by (read a)
 
 abbrev pub taken_by : After Outcome → List ℕ → List (List ℕ)
-taken_by a = Any.taken_by (read a)
+taken_by a = AnyLink.taken_by (read a)
 
 abbrev pub left_by : After Outcome → List ℕ → List (List ℕ) → List (List ℕ)
-left_by a = Any.left_by (read a)
+left_by a = AnyLink.left_by (read a)
 
 abbrev pub called : System → After Outcome → List (List ℕ) → List (List ℕ) → List (List ℕ) → System
-called S a = Any.called S (read a)
+called S a = AnyLink.called S (read a)
 
 abbrev pub submits : System → List ℕ → ℕ → List ℕ → System
-submits = Any.submits true_calls
+submits = AnyLink.submits true_calls
 
 abbrev pub takes : System → List ℕ → ℕ → List ℕ → List (List ℕ) → System
-takes = Any.takes true_calls
+takes = AnyLink.takes true_calls
 
 abbrev pub look_of : System → List ℕ → ℕ → After Outcome
 look_of S frame ms = outcome_of (looked S.here.state S.here.slots frame ms)
 
 abbrev pub looks : System → List ℕ → ℕ → System
-looks = Any.looks true_calls
+looks = AnyLink.looks true_calls
 
 abbrev pub acknowledges : System → List ℕ → System
-acknowledges = Any.acknowledges true_calls
+acknowledges = AnyLink.acknowledges true_calls
 
 abbrev pub fresh_side : Settings → List ℕ → Side
-fresh_side = Any.fresh_side true_calls
+fresh_side = AnyLink.fresh_side true_calls
 
 abbrev pub Move : System → System → Type 0
-Move = Any.Move true_calls
+Move = AnyLink.Move true_calls
 
 abbrev pub Moment : Settings → System → Type 0
-Moment = Any.Moment true_calls
+Moment = AnyLink.Moment true_calls
 
 abbrev pub Enough : System → List ℕ → Type 0
 Enough = AnyRound.Enough true_calls

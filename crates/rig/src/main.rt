@@ -4,5 +4,5 @@
 use std::io;
 
 fn main(rt: HostRuntime) -> io::Result<()> {
-    script::run(&rt, false)
+    script::run(&mut rt.stdin(), &mut rt.stdout(), false)
 }

@@ -141,15 +141,15 @@ fn all_lines(
     Ok(())
 }
 
-// Reads a script on standard input and prints what its lines give; worked (R10.13): each line again, with what it
+// Reads a script and writes what its lines give; worked (R10.13): each line again, with what it
 // gives behind an arrow.
-pub fn run(rt: &(impl Input + Print), is_worked: bool) -> io::Result<()> {
+pub fn run(source: &mut impl Read, to: &mut impl Write, is_worked: bool) -> io::Result<()> {
     let mut input = [0u8; INPUT];
     let mut slots = [0u8; BUFFER];
     let mut room = [0u8; ROOM];
     all_lines(
-        &mut rt.reader(),
-        &mut io::writer(rt),
+        source,
+        to,
         &mut input,
         &mut slots,
         &mut room,

@@ -1,7 +1,6 @@
 -- The tests of the state as plain facts, and back.
-use Rattle.std.proofs.Common.{◌≡◌, ℕ, zero, suc, ◌+◌, ◌*◌, ◌%◌, ◌<◌, ◌≤◌, Bool, true, false, cond, ◌&&◌, ◌||◌, eqb, ltb, leb, List, get_or, refl, ap, mul-le-mul_right, mod-lt, suc-mul, arith, ltb-false, ltb-true, le-ltb, lt-ltb, eq-eqb, eqb-true, le-leb, leb-true}
+use Rattle.std.proofs.Common.{◌≡◌, ℕ, zero, suc, ◌+◌, ◌*◌, ◌%◌, ◌<◌, ◌≤◌, Bool, true, false, cond, ◌&&◌, ◌||◌, eqb, ltb, leb, List, get_or, refl, ap, mul-le-mul_right, mod-lt, suc-mul, arith, ltb-false, ltb-true, le-ltb, eq-eqb, eqb-true, le-leb, leb-true}
 use borrow.Author.Tests.{eqb-false}
-use Rattle.base.specs.Range.{within}
 use Rattle.base.specs.Answer.{done, out_of_range, short_buffer, link_lost}
 use Rattle.base.proofs.Tests.{and_left, and_right, or_right, or_left_false, or_right_false, cond_cases, within_low, within_high, passed, spared, first_refusal_left, first_refusal_right, first_refusal_below}
 use Rattle.frame.specs.Bytes.{high_first}
@@ -13,53 +12,26 @@ use Rattle.state.specs.State.{sent_before, slot_of, length_of, length_ok, number
 use Rattle.state.specs.Gate.{After, refused, gated, entry_of, gate_of}
 use Rattle.state.specs.Timer.{left, due, onward}
 use Rattle.state.specs.Formed.{InRange, LengthOk, Formed, Entered, Open, Usable}
+use Rattle.state.proofs.Ranges.{Ranges, ranges, facts_in_range}
 
 -- ---- settings
 
 pub in_range_facts : (s : Settings) → in_range s ≡ true → InRange s
-unfolding in_range
 in_range_facts s e =
-    let d = within 16 s.format.d 1024 in
-    let w = within 1 s.window 2 in
-    let t = within 2 s.transtimeout 1000 in
-    let a = leb 1 s.acktimeout && ltb s.acktimeout s.transtimeout in
-    let r = within 1 s.repeats 4 in
-    let o = leb s.format.order high_first in
-    let e5 : (d && w && t && a && r) ≡ true = and_left (d && w && t && a && r) o e in
-    let e4 : (d && w && t && a) ≡ true = and_left (d && w && t && a) r e5 in
-    let e3 : (d && w && t) ≡ true = and_left (d && w && t) a e4 in
-    let e2 : (d && w) ≡ true = and_left (d && w) t e3 in
-    let ea : a ≡ true = and_right (d && w && t) a e4 in
+    let r : Ranges s = ranges s e in
     record {
-      d_lo = within_low 16 s.format.d 1024 (and_left d w e2);
-      d_hi = within_high 16 s.format.d 1024 (and_left d w e2);
-      window_lo = within_low 1 s.window 2 (and_right d w e2);
-      window_hi = within_high 1 s.window 2 (and_right d w e2);
-      transtimeout_lo = within_low 2 s.transtimeout 1000 (and_right (d && w) t e3);
-      transtimeout_hi = within_high 2 s.transtimeout 1000 (and_right (d && w) t e3);
-      acktimeout_lo = leb-true 1 s.acktimeout (and_left (leb 1 s.acktimeout) (ltb s.acktimeout s.transtimeout) ea);
-      acktimeout_hi = ltb-true s.acktimeout s.transtimeout (and_right (leb 1 s.acktimeout) (ltb s.acktimeout s.transtimeout) ea);
-      repeats_lo = within_low 1 s.repeats 4 (and_right (d && w && t && a) r e5);
-      repeats_hi = within_high 1 s.repeats 4 (and_right (d && w && t && a) r e5);
-      order_hi = leb-true s.format.order high_first (and_right (d && w && t && a && r) o e);
+      d_lo = within_low 16 s.format.d _ r.d;
+      d_hi = within_high 16 s.format.d _ r.d;
+      window_lo = within_low 1 s.window _ r.window;
+      window_hi = omega (arith, within_high 1 s.window _ r.window);
+      transtimeout_lo = within_low 2 s.transtimeout _ r.transtimeout;
+      transtimeout_hi = within_high 2 s.transtimeout _ r.transtimeout;
+      acktimeout_lo = leb-true 1 s.acktimeout (and_left (leb 1 s.acktimeout) (ltb s.acktimeout s.transtimeout) r.acktimeout);
+      acktimeout_hi = ltb-true s.acktimeout s.transtimeout (and_right (leb 1 s.acktimeout) (ltb s.acktimeout s.transtimeout) r.acktimeout);
+      repeats_lo = within_low 1 s.repeats _ r.repeats;
+      repeats_hi = within_high 1 s.repeats _ r.repeats;
+      order_hi = leb-true s.format.order high_first r.order;
     }
-
-pub facts_in_range : (s : Settings) → InRange s → in_range s ≡ true
-unfolding in_range
-facts_in_range s f =
-    rw (
-      le-leb 16 s.format.d f.d_lo,
-      le-leb s.format.d 1024 f.d_hi,
-      le-leb 1 s.window f.window_lo,
-      le-leb s.window 2 f.window_hi,
-      le-leb 2 s.transtimeout f.transtimeout_lo,
-      le-leb s.transtimeout 1000 f.transtimeout_hi,
-      le-leb 1 s.acktimeout f.acktimeout_lo,
-      lt-ltb s.acktimeout s.transtimeout f.acktimeout_hi,
-      le-leb 1 s.repeats f.repeats_lo,
-      le-leb s.repeats 4 f.repeats_hi,
-      le-leb s.format.order high_first f.order_hi,
-    )
 
 -- ---- slots
 

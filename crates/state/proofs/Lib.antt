@@ -1,3 +1,4 @@
 pub mod Facts
 pub mod Keeps
+pub mod Ranges
 pub mod Shut

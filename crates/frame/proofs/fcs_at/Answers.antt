@@ -1,5 +1,5 @@
 -- `frame::fcs_at` meets its contract.
-use Rattle.frame.proofs.Hearing.{fcs_at-read}
+use Rattle.frame.proofs.LastTwo.{fcs_at-read}
 use Rattle.std.proofs.Common.{arith}
 use Rattle.frame.proofs.fcs_at.Goals as goal
 
