@@ -1,5 +1,5 @@
 // Input, a piece at a time.
-ghost use Rattle.std.specs.Prelude.{◌≤◌, IfOk, length};
+ghost use Rattle.std.specs.Prelude.{◌≡◌, ◌≤◌, IfOk, OnErr, length};
 
 use std::io;
 use std::io::Read;
@@ -9,9 +9,10 @@ pub const INPUT: usize = 65536;
 
 pub type Input = [u8; INPUT];
 
-// How many bytes one read put at the front of `buffer`: 0 where the input has ended.
+// How many bytes one read put at the front of `buffer`: 0 where the input has ended. Behind an error the buffer may hold any bytes.
 pub fn read(source: &mut impl Read, buffer: &mut [u8]) -> io::Result<usize>
-    ensures { IfOk result (λ n. n ≤ length buffer.new) }
+    ensures ok { IfOk result (λ n. n ≤ length buffer.new) }
+    ensures err { OnErr result (length buffer.new ≡ length buffer.old) }
 {
     source.read(buffer)
 }

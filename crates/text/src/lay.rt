@@ -1,6 +1,7 @@
 // Text for output. It is laid into a lent array from an index on, and each function gives the index past what it laid. Where the
-// array is full, what was laid is written and laying goes on at its front: nothing is left out, however short the array.
-ghost use Rattle.std.specs.Prelude.{◌<◌, ◌≤◌, length};
+// array is full, what was laid is written and laying goes on at its front: nothing is left out, however short the array. Behind an error
+// the writer has taken what it took, and the array may hold any bytes.
+ghost use Rattle.std.specs.Prelude.{◌≡◌, ◌<◌, ◌≤◌, OnErr, length};
 
 use crate::{find, least};
 use base::buffer::part;
@@ -29,7 +30,9 @@ pub fn write_out(to: &mut impl Write, out: &[u8], at: usize) -> io::Result<()> {
 }
 
 // A text that the whole array cannot hold is written by itself.
-fn add_anew(to: &mut impl Write, out: &mut [u8], text: &[u8]) -> io::Result<usize> {
+fn add_anew(to: &mut impl Write, out: &mut [u8], text: &[u8]) -> io::Result<usize>
+    ensures { OnErr result (out.new ≡ out.old) }
+{
     if out.len() < text.len() {
         to.write_all(text)?;
         return Ok(0);
@@ -38,8 +41,10 @@ fn add_anew(to: &mut impl Write, out: &mut [u8], text: &[u8]) -> io::Result<usiz
     Ok(text.len())
 }
 
-// Lays a text.
-pub fn add(to: &mut impl Write, out: &mut [u8], at: usize, text: &[u8]) -> io::Result<usize> {
+// Lays a text; behind an error the array is as it was.
+pub fn add(to: &mut impl Write, out: &mut [u8], at: usize, text: &[u8]) -> io::Result<usize>
+    ensures { OnErr result (out.new ≡ out.old) }
+{
     if at <= out.len() {
         if text.len() <= out.len() - at {
             base::buffer::copy_at(out, at, text);
@@ -91,7 +96,9 @@ pub fn add_filled(
     at: usize,
     template: &[u8],
     numbers: &[u64],
-) -> io::Result<usize> {
+) -> io::Result<usize>
+    ensures { OnErr result (length out.new ≡ length out.old) }
+{
     let mut next = at;
     let mut n: usize = 0;
     let mut i: usize = 0;
@@ -183,7 +190,9 @@ fn add_pairs(to: &mut impl Write, out: &mut [u8], at: usize, bytes: &[u8]) -> io
 }
 
 // Lays a space, and bytes in hexadecimal digits, upper case; `-` for none.
-pub fn add_hex(to: &mut impl Write, out: &mut [u8], at: usize, bytes: &[u8]) -> io::Result<usize> {
+pub fn add_hex(to: &mut impl Write, out: &mut [u8], at: usize, bytes: &[u8]) -> io::Result<usize>
+    ensures { OnErr result (length out.new ≡ length out.old) }
+{
     if bytes.len() == 0 {
         return add(to, out, at, b" -");
     }

@@ -173,6 +173,7 @@ fn read_more(
 }
 
 // The next line, if one ends in what was read; else what one read brings. What a reader says is believed no further than the input goes.
+// Behind an error `input` may hold any bytes.
 pub fn next(source: &mut impl Read, input: &mut Input, r: Reader) -> io::Result<Reader>
     ensures { IfOk result (λ k. (k.start ≤ k.end) × (k.end ≤ 65536)) }
 {
