@@ -1,5 +1,5 @@
 #!/usr/bin/env python3
-"""Brings the repository's own names to today's spelling, once, behind /opt/rattle/port/port.py.
+"""Brings the repository's own names to today's spelling, once, behind the toolchain's port.py.
 
 usage: tools/respell.py        at the top of the repository
 
