@@ -1,5 +1,4 @@
 -- A table is tested once, at each entry, by computing; the test gives its rule, and the rule gives the step from every seed.
---
 use Rattle.std.proofs.Common.{◌≡◌, sym, ap, ◌∙◌, Bool, true, false, ◌&&◌, List, [], ◌∷◌, ℕ, zero, suc, ◌+◌, ◌/◌, ◌^◌, ◌<◌, add-zero, zero-add, add-suc, suc-add, le_of_suc-le-suc, not-suc-le-zero, T, eqb, eqb→eq, length, get_or, bit_and, bit_xor}
 use lib.Bits.{and_mask, mask_lt}
 use Rattle.fcs.specs.Checksum.{byte_step, Agrees}

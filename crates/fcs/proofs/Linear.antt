@@ -1,5 +1,4 @@
 -- The bit rule is linear over exclusive-or, so a step from any seed is one from 0, and the seed's high byte comes out as it went in.
---
 use Rattle.std.proofs.Common.{◌≡◌, refl, sym, ap, ap₂, ◌∙◌, ℕ, zero, suc, ◌*◌, ◌/◌, ◌%◌, ◌^◌, ◌<◌, mod-lt, add-one, arith, eqb, pow_pos, shr_lt, bit_xor}
 use native.Mathlib.Nat.{div-eq_of_lt}
 use lib.Arith.{lt-one}

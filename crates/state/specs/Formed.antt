@@ -1,5 +1,6 @@
 -- What the tests of well-formedness and the gate say, R2.1, R8.1, R9.1, as plain inequalities, for the proofs of all crates above: of Sound
--- alone something is promised (link). proofs/Facts.antt shows that the tests give these, and of InRange and Formed the way back.
+-- alone something is promised (link). proofs/Facts.antt shows that the tests give these, and the way back of Formed; that of InRange is in
+-- Ranges.antt.
 use Rattle.std.specs.Prelude.{◌≡◌, ℕ, ◌<◌, ◌≤◌, true, false, length, slice_index}
 use Rattle.frame.specs.Bytes.{high_first}
 use Rattle.state.specs.declared.Settings.{Settings}

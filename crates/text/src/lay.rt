@@ -1,6 +1,6 @@
 // Text for output. It is laid into a lent array from an index on, and each function gives the index past what it laid. Where the
 // array is full, what was laid is written and laying goes on at its front: nothing is left out, however short the array. Behind an error
-// the writer has what it took, and the array may hold any bytes, but of `add`.
+// the writer has what it took, and the array may hold any bytes; `add` alone leaves it as it was.
 ghost use Rattle.std.specs.Prelude.{◌≡◌, ◌<◌, ◌≤◌, OnErr, length};
 
 use crate::{find, least};

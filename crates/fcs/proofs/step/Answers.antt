@@ -3,4 +3,4 @@ use Rattle.fcs.proofs.Agree.{agrees_step}
 use Rattle.fcs.proofs.step.Goals as goal
 
 pub returns : goal.returns
-returns c = let b = c in agrees_step b.requires b.args.seed b.args.byte b.ranges.byte.fits
+returns c = agrees_step c.requires c.args.seed c.args.byte c.ranges.byte.fits
