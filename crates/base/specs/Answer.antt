@@ -1,6 +1,8 @@
 -- The numbers that the calls return: R8.0 to R8.18, which also say what each leaves; their order R9.1; later ones R9.4. Those from 19 on are
 -- named for calls to come, and no call returns them yet (DECISIONS D89).
-use Rattle.std.specs.Prelude.{ℕ, cond, ◌==◌}
+use Rattle.std.specs.Prelude.{ℕ, cond, ◌==◌, Result, Ok, Err}
+use Rattle.base.specs.declared.answer.Refusal.{Refusal}
+use Rattle.base.specs.declared.answer.Refusal.TheVariants.{OutOfRange, ShortBuffer, LinkLost, PacketSize, WindowFull, FrameSum, UnusedCode, ControlSize, Unexpected, ChainFault, OtherChannel, SecuredPacket, MessageSize, TooLong, FaultTold, NoSuchPacket, FrameSize, FrameLength, UnknownRegister, RegisterAccess, RegisterSize, RegisterValue, OutboxFull, OutboxRoom, NumberHeld, NumberNotHeld, MessageBegun, ChannelCount, RestartCount, ImageLength, ImageVersion, ImageField, BlockLimit, BlockLength, BlockSum, BlockHead, BlockNumber, BlockChain, FalseLength}
 
 -- R8.0: the call was carried out
 abbrev pub done : ℕ
@@ -179,3 +181,52 @@ false_length = 39
 -- R9.1: the first of two answers that refuses; every gate is built of it, and names its own order
 abbrev pub first_refusal : ℕ → ℕ → ℕ
 first_refusal a b = cond (a == done) b a
+
+-- ---- why a call refuses
+
+-- R8: the answer's number
+abbrev pub number_of : Refusal → ℕ
+number_of OutOfRange = out_of_range
+number_of ShortBuffer = short_buffer
+number_of LinkLost = link_lost
+number_of PacketSize = packet_size
+number_of WindowFull = window_full
+number_of FrameSum = frame_sum
+number_of UnusedCode = unused_code
+number_of ControlSize = control_size
+number_of Unexpected = unexpected
+number_of ChainFault = chain_fault
+number_of OtherChannel = other_channel
+number_of SecuredPacket = secured_packet
+number_of MessageSize = message_size
+number_of TooLong = too_long
+number_of FaultTold = fault_told
+number_of NoSuchPacket = no_such_packet
+number_of FrameSize = frame_size
+number_of FrameLength = frame_length
+number_of UnknownRegister = unknown_register
+number_of RegisterAccess = register_access
+number_of RegisterSize = register_size
+number_of RegisterValue = register_value
+number_of OutboxFull = outbox_full
+number_of OutboxRoom = outbox_room
+number_of NumberHeld = number_held
+number_of NumberNotHeld = number_not_held
+number_of MessageBegun = message_begun
+number_of ChannelCount = channel_count
+number_of RestartCount = restart_count
+number_of ImageLength = image_length
+number_of ImageVersion = image_version
+number_of ImageField = image_field
+number_of BlockLimit = block_limit
+number_of BlockLength = block_length
+number_of BlockSum = block_sum
+number_of BlockHead = block_head
+number_of BlockNumber = block_number
+number_of BlockChain = block_chain
+number_of FalseLength = false_length
+
+-- R9.1: what a gate says, as an answer: 0 where it lets the call in
+abbrev pub answer_of : {A : Type 0} → Result A Refusal → ℕ
+answer_of (Ok a) = done
+answer_of (Err r) = number_of r

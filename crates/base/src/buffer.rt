@@ -13,12 +13,8 @@ pub fn copy_at(buffer: &mut [u8], at: usize, source: &[u8])
 
 // So many bytes of a buffer from an index on; none where it has not so many.
 pub fn part(buffer: &[u8], at: usize, count: usize) -> &[u8] {
-    let end = std::num::wrapping_add_usize(at, count);
-    if end < at {
-        return &buffer[0..0];
+    match at.checked_add(count) {
+        Some(end) if end <= buffer.len() => &buffer[at..end],
+        _ => &[],
     }
-    if buffer.len() < end {
-        return &buffer[0..0];
-    }
-    &buffer[at..end]
 }
