@@ -12,15 +12,13 @@ pub fn bit_rule(seed: u16, byte: u8) -> u16
 {
     let mut crc = seed;
     let mut bits = byte as u16;
-    let mut k: usize = 0;
-    while k < 8 {
+    for _ in 0..8u8 {
         if (crc & 1) == (bits & 1) {
             crc = crc >> 1;
         } else {
             crc = (crc >> 1) ^ 0x8408;
         }
         bits = bits >> 1;
-        k += 1;
     }
     crc
 }
@@ -39,11 +37,9 @@ pub fn checksum(bytes: &[u8]) -> u16
     ensures { result ≡ checksum_of bytes.now }
 {
     let entries = table::entries();
-    let mut crc: u16 = 0;
-    let mut i = 0;
-    while i < bytes.len() {
-        crc = step(&entries, crc, bytes[i]);
-        i += 1;
+    let mut crc = 0;
+    for byte in bytes {
+        crc = step(&entries, crc, *byte);
     }
     crc
 }

@@ -19,14 +19,14 @@ other : (seed bits : ℕ) → (bit_and seed 1 ≡ bit_and bits 1 → ⊥) → bi
 unfolding bit_step
 other seed bits f = rw (ne_eqb (seed % 2) (bits % 2) (λ e. f (and_mask seed 1 ∙ e ∙ sym (and_mask bits 1))))
 
-pub loop-k-init : goal.loop-k-init
+pub loop-init : goal.loop-init
 unfolding byte_step
-loop-k-init c = (omega arith, refl)
+loop-init c = (omega arith, refl)
 
-pub loop-k-preserved : goal.loop-k-preserved
-loop-k-preserved c =
-    let l = c.loop-k in
-    let e = next l.k l.crc l.bits _ (omega arith) l.invariant.1 in
+pub loop-preserved : goal.loop-preserved
+loop-preserved c =
+    let l = c.loop in
+    let e = next l.counter l.crc l.bits _ (omega arith) l.invariant.1 in
     elim c.if-crc-bits.branch [
       | then-crc-bits w ↦ (omega arith, rw (w.crc-is, ← same l.crc l.bits w.if-crc-bits.true) e)
       | else-crc-bits w ↦ (omega arith, rw (w.crc-is, ← other l.crc l.bits w.if-crc-bits.false) e)
@@ -34,4 +34,4 @@ loop-k-preserved c =
 
 pub returns : goal.returns
 unfolding bit_steps
-returns c = let e : 8 - c.loop-k.k ≡ 0 = omega arith in rw e at c.loop-k.invariant.1
+returns c = let e : 8 - c.loop.counter ≡ 0 = omega arith in rw e at c.loop.invariant.1

@@ -3,8 +3,5 @@ use Rattle.std.proofs.Common.{◌≡◌, ◌≤◌, ◌-◌}
 use Rattle.fcs.specs.Checksum.{bit_steps, byte_step}
 use Rattle.fcs.proofs.bit_rule.Given as goal
 
-abbrev pub invariant-loop-k : goal.invariant-loop-k
-invariant-loop-k l = (l.k ≤ 8) × (bit_steps (8 - l.k) l.crc l.bits ≡ byte_step l.seed l.byte)
-
-abbrev pub decreases-loop-k : goal.decreases-loop-k
-decreases-loop-k l = 8 - l.k
+abbrev pub invariant-loop : goal.invariant-loop
+invariant-loop l = (l.counter ≤ 8) × (bit_steps (8 - l.counter) l.crc l.bits ≡ byte_step l.seed l.byte)

@@ -4,14 +4,14 @@ use Rattle.fcs.specs.Checksum.{checksum_of}
 use Rattle.fcs.proofs.Laws.{checksum_from_next, checksum_from-done}
 use Rattle.fcs.proofs.checksum.Goals as goal
 
-pub loop-i-init : goal.loop-i-init
+pub loop-byte-init : goal.loop-byte-init
 unfolding checksum_of
-loop-i-init c = (omega arith, refl, c.entries-entries.ensures)
+loop-byte-init c = (omega arith, refl, c.entries-entries.ensures)
 
-pub loop-i-preserved : goal.loop-i-preserved
-loop-i-preserved c =
-    let l = c.loop-i in
-    (omega arith, rw c.step-crc.ensures (checksum_from_next _ l.i l.crc _ (omega arith) l.invariant.1), l.invariant.2)
+pub loop-byte-preserved : goal.loop-byte-preserved
+loop-byte-preserved c =
+    let l = c.loop-byte in
+    (omega arith, rw c.step-crc.ensures (checksum_from_next _ l.byte-index l.crc _ (omega arith) l.invariant.1), l.invariant.2)
 
 pub returns : goal.returns
-returns c = let l = c.loop-i in checksum_from-done _ l.i l.crc _ (omega arith) l.invariant.1
+returns c = let l = c.loop-byte in checksum_from-done _ l.byte-index l.crc _ (omega arith) l.invariant.1
