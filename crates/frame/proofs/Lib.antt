@@ -1,5 +1,4 @@
 pub mod Writing
-pub mod LastTwo
 pub mod Hearing
 pub mod Reasons
 pub mod Orders

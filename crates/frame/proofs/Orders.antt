@@ -1,5 +1,5 @@
 -- What the order of FCS changes.
-use Rattle.std.proofs.Common.{◌≡◌, refl, sym, ap, ◌∙◌, Bool, true, false, ◌&&◌, ◌≢◌, List, [], ◌∷◌, ◌++◌, reverse, ℕ, ◌+◌, ◌-◌, ◌/◌, ◌%◌, ◌≤◌, ◌<◌, arith, ltb-false, eqb-true, ne_eqb, length, take, drop, get_or, length-append, length-drop, take-append-drop, length-take-le, take_all, take_at, drop_at, get_or-take, eqb, ltb}
+use Rattle.std.proofs.Common.{◌≡◌, refl, sym, ap, ◌∙◌, Bool, true, false, ◌&&◌, ◌≢◌, List, [], ◌∷◌, ◌++◌, reverse, ℕ, suc, ◌+◌, ◌-◌, ◌/◌, ◌%◌, ◌≤◌, ◌<◌, add-one, arith, ltb-false, eqb-true, ne_eqb, length, take, drop, get_or, length-append, length-drop, take-append-drop, length-take-le, take_all, take_at, drop_at, get_or-take, drop-cons, eqb, ltb}
 use lib.ListN.{length-reverse, get_or-append}
 use Rattle.base.proofs.Tests.{and_left, and_right, cond_cases}
 use Rattle.fcs.specs.Checksum.{checksum_of}
@@ -9,11 +9,13 @@ use Rattle.frame.specs.Bytes.{len_bytes, high_first, by_order, fcs_bytes, sealed
 use Rattle.frame.specs.Steps.{fcs_at, judged, heard}
 use Rattle.frame.specs.Orders.{in_other_order, turned, FrameTurned, HeardTurned, OtherOrder, EqualHeard, ResetOther, ZerosHeard}
 use Rattle.frame.proofs.Writing.{sealed-length}
-use Rattle.frame.proofs.LastTwo.{two}
 use Rattle.frame.proofs.Hearing.{heard_framed}
 use Rattle.frame.proofs.Reasons.{fault-heard}
 
 -- ---- the two bytes
+
+two : (x : List ℕ) (at : ℕ) → at + 2 ≤ length x → take 2 (drop at x) ≡ get_or x at 0 ∷ get_or x (at + 1) 0 ∷ []
+two x at h = rw (drop-cons x at 0 (omega arith), drop-cons x (suc at) 0 (omega arith), add-one)
 
 pub by_order_other : {A : Type 0} (format : Format) (a b : A) → by_order (in_other_order format) a b ≡ by_order format b a
 by_order_other format a b = go (eqb format.order high_first) refl

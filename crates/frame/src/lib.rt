@@ -1,13 +1,15 @@
 // A frame's bytes, heard and written: R3, R4.1 to R4.4. Only this crate knows the place of a byte and the order of FCS.
-#![tactic(auto)]
+#![tactic(auto, unfolding(crate::specs::Steps::used, crate::specs::Steps::accepted, crate::specs::Steps::judged, crate::specs::Steps::fcs_at))]
 
 ghost use Rattle.std.specs.Prelude.{◌≡◌, [], ◌∷◌, ◌++◌, ◌+◌, ◌≤◌, ◌<◌, length, take};
+ghost use Rattle.base.specs.Answer.{answer_of};
 ghost use Rattle.base.specs.Buffer.{put};
 ghost use Rattle.frame.specs.Bytes.{len_bytes, by_order, fcs_bytes, sealed, data_frame, ack_frame, nak_frame, frame_of, reset_frame, Written};
 ghost use Rattle.frame.specs.Orders.{in_other_order};
 ghost use Rattle.frame.specs.Steps.{len_of, fcs_at, used, accepted, judged, heard, refusal_of};
 
-use base::{answer, buffer};
+use base::answer::Refusal;
+use base::buffer;
 
 // What the bytes of a frame depend on beside what it says, for the writer as for the hearer: D, and the order of the FCS bytes (R3.8).
 #[derive(Clone, Copy)]
@@ -40,47 +42,35 @@ pub enum Heard {
     },
 }
 
-fn by_order(format: Format, low: u8, high: u8) -> u8
-    ensures { result ≡ by_order format low high }
-{
-    if format.order == HIGH_FIRST {
-        high
-    } else {
-        low
-    }
-}
-
 // The same format with the other order.
 pub fn other_order(format: Format) -> Format
     ensures { result ≡ in_other_order format }
 {
-    Format {
-        d: format.d,
-        order: by_order(format, HIGH_FIRST, LOW_FIRST),
-    }
+    let order = if format.order == HIGH_FIRST {
+        LOW_FIRST
+    } else {
+        HIGH_FIRST
+    };
+    Format { order, ..format }
 }
 
 fn fcs_bytes(format: Format, sum: u16) -> [u8; 2]
     ensures { result ≡ fcs_bytes format sum }
 {
-    let low = (sum % 256) as u8;
-    let high = (sum / 256) as u8;
-    [by_order(format, low, high), by_order(format, high, low)]
+    if format.order == HIGH_FIRST {
+        sum.to_be_bytes()
+    } else {
+        sum.to_le_bytes()
+    }
 }
 
 // ---- hearing
 
-fn widen(byte: u8) -> usize
-    ensures { (result ≡ byte) × (result < 256) }
-{
-    byte as usize
-}
-
-fn len_of(frame: &[u8]) -> usize
+fn len_of(frame: &[u8]) -> u16
     requires { 5 ≤ length frame.now }
-    ensures { (result ≡ len_of frame.now) × (result < 65536) }
+    ensures { result ≡ len_of frame.now }
 {
-    widen(frame[1]) * 256 + widen(frame[2])
+    u16::from_be_bytes([frame[1], frame[2]])
 }
 
 fn fcs_at(format: Format, frame: &[u8], at: usize) -> bool
@@ -94,45 +84,38 @@ fn fcs_at(format: Format, frame: &[u8], at: usize) -> bool
 fn is_used(fctr: u8) -> bool
     ensures { result ≡ used fctr }
 {
-    (0x00 <= fctr) & (fctr <= 0x0F)
-        | (0x20 <= fctr) & (fctr <= 0x2F)
-        | (0x80 <= fctr) & (fctr <= 0x83)
-        | (0xA0 <= fctr) & (fctr <= 0xA3)
-        | (fctr == 0xC0)
+    matches!(fctr, 0x00..=0x0F | 0x20..=0x2F | 0x80..=0x83 | 0xA0..=0xA3 | 0xC0)
 }
 
-fn accept(fctr: u8, len: usize) -> Heard
-    requires { len < 65536 }
+fn accept(fctr: u8, len: u16) -> Heard
     ensures { result ≡ accepted fctr len }
 {
-    let sequence = fctr / 32 % 4;
     let acknowledged = fctr % 4;
+    let sequence = fctr / 32 % 4;
     if fctr < 0x80 {
         return Heard::Data {
             number: fctr / 4 % 4,
             nak: sequence == 1,
             acknowledged,
-            length: len as u16,
+            length: len,
         };
     }
-    if sequence == 2 {
-        return Heard::Reset;
+    match sequence {
+        2 => Heard::Reset,
+        1 => Heard::Nak(acknowledged),
+        _ => Heard::Ack(acknowledged),
     }
-    if sequence == 1 {
-        return Heard::Nak(acknowledged);
-    }
-    Heard::Ack(acknowledged)
 }
 
 // Steps 2 to 4, of the frame's FCTR, its LEN and its size.
-fn judge(fctr: u8, len: usize, size: usize) -> Heard
-    requires { (len < 65536) × (5 ≤ size) }
+fn judge(fctr: u8, len: u16, size: usize) -> Heard
+    requires { 5 ≤ size }
     ensures { result ≡ judged fctr len size }
 {
     let control = 0x80 <= fctr;
     let unused = !is_used(fctr);
-    let oversize = control & ((size != 5) | (len != 0));
-    let uneven = !control & ((len == 0) | (len != size - 5));
+    let oversize = control && (size != 5 || len != 0);
+    let uneven = !control && (len == 0 || len as usize != size - 5);
     if unused {
         return Heard::Code;
     }
@@ -164,25 +147,17 @@ pub fn hear(format: Format, frame: &[u8]) -> Heard
     Heard::Sum
 }
 
-// The number by which a frame so heard is refused, or 0 where it passes steps 1 to 4.
-pub fn refusal(h: Heard) -> u8
-    ensures { result ≡ refusal_of h }
+// Why a frame so heard is refused, if steps 1 to 4 refuse it.
+pub fn refusal(h: Heard) -> Result<(), Refusal>
+    ensures { answer_of result ≡ refusal_of h }
 {
     match h {
-        Heard::Size => answer::FRAME_SIZE,
-        Heard::Sum => answer::FRAME_SUM,
-        Heard::Code => answer::UNUSED_CODE,
-        Heard::ControlSize => answer::CONTROL_SIZE,
-        Heard::Length => answer::FRAME_LENGTH,
-        Heard::Reset => answer::DONE,
-        Heard::Ack(_) => answer::DONE,
-        Heard::Nak(_) => answer::DONE,
-        Heard::Data {
-            number: _,
-            nak: _,
-            acknowledged: _,
-            length: _,
-        } => answer::DONE,
+        Heard::Size => Err(Refusal::FrameSize),
+        Heard::Sum => Err(Refusal::FrameSum),
+        Heard::Code => Err(Refusal::UnusedCode),
+        Heard::ControlSize => Err(Refusal::ControlSize),
+        Heard::Length => Err(Refusal::FrameLength),
+        Heard::Reset | Heard::Ack(_) | Heard::Nak(_) | Heard::Data { .. } => Ok(()),
     }
 }
 
@@ -192,9 +167,10 @@ fn put_head(frame: &mut [u8], fctr: u8, len: u16)
     requires { 3 ≤ length frame.old }
     ensures { frame.new ≡ put frame.old 0 (fctr ∷ len_bytes len) }
 {
+    let [high, low] = len.to_be_bytes();
     frame[0] = fctr;
-    frame[1] = (len / 256) as u8;
-    frame[2] = (len % 256) as u8;
+    frame[1] = high;
+    frame[2] = low;
 }
 
 // R3.2: writes FCS behind the bytes that it covers, and gives the length of the whole.
@@ -262,10 +238,11 @@ pub fn write_reset(format: Format, frame: &mut [u8]) -> u16
     requires { 5 ≤ length frame.old }
     ensures { Written (reset_frame format) frame.old frame.new result }
 {
-    if format.order == HIGH_FIRST {
-        buffer::copy_at(frame, 0, b"\xC0\x00\x00\x0A\x9A");
+    let bytes = if format.order == HIGH_FIRST {
+        b"\xC0\x00\x00\x0A\x9A"
     } else {
-        buffer::copy_at(frame, 0, b"\xC0\x00\x00\x9A\x0A");
-    }
+        b"\xC0\x00\x00\x9A\x0A"
+    };
+    buffer::copy_at(frame, 0, bytes);
     5
 }

@@ -13,7 +13,7 @@ returns-then-format-size c = rw (le-ltb _ _ c.if-size-lt5.false, lt-ltb _ _ c.if
 
 pub returns-then-fcs_at : goal.returns-then-fcs_at
 unfolding heard
-returns-then-fcs_at c = rw (le-ltb _ _ c.if-size-lt5.false, le-ltb _ _ c.if-format-size.false, ← c.fcs_at.ensures, c.if-fcs_at.true, ← c.len_of-len.ensures.0) c.judge.ensures
+returns-then-fcs_at c = rw (le-ltb _ _ c.if-size-lt5.false, le-ltb _ _ c.if-format-size.false, ← c.fcs_at.ensures, c.if-fcs_at.true, ← c.len_of-len.ensures) c.judge.ensures
 
 pub returns : goal.returns
 unfolding heard
