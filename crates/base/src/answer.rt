@@ -1,7 +1,7 @@
 // The number that a call returns where it is carried out, and why it is refused where it is not (R8). specs/Answer.antt has the same names
 // for the contracts.
 ghost use Rattle.std.specs.Prelude.{◌≡◌};
-ghost use Rattle.base.specs.Answer.{number_of};
+ghost use Rattle.base.specs.Answer.{number_of, answer_of};
 
 pub const DONE: u8 = 0;
 
@@ -61,5 +61,15 @@ impl Refusal {
         ensures { result ≡ number_of self }
     {
         self as u8
+    }
+}
+
+// What a call answers: of a refusal its number, else DONE.
+pub fn told(outcome: Result<(), Refusal>) -> u8
+    ensures { result ≡ answer_of outcome }
+{
+    match outcome {
+        Ok(()) => DONE,
+        Err(refusal) => refusal.number(),
     }
 }

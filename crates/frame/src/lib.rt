@@ -12,7 +12,7 @@ use base::answer::Refusal;
 use base::buffer;
 
 // What the bytes of a frame depend on beside what it says, for the writer as for the hearer: D, and the order of the FCS bytes (R3.8).
-#[derive(Clone, Copy)]
+#[derive(Clone, Copy, Default)]
 pub struct Format {
     pub d: u16,
     pub order: u8,

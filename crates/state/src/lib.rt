@@ -1,20 +1,21 @@
 // What an end keeps (R2, R5): its settings and its state, when they are well formed, the gate 1, 2, 3 (R9.1), fresh, timers (R6); start and
 // resynchronise.
-#![tactic(auto)]
+#![tactic(auto, unfolding(crate::specs::Gate::entry_of, crate::specs::Gate::gate_of, crate::specs::State::fresh_of, crate::specs::Bounds::in_range, crate::specs::State::numbers_ok, crate::specs::State::well_formed, crate::specs::Timer::time_left, crate::specs::Calls::started, crate::specs::Calls::resynchronised))]
 
 ghost use Rattle.std.specs.Prelude.{◌≡◌, ◌<◌, ◌≤◌, length};
 ghost use Rattle.state.specs.Bounds.{limit_of, in_range, slots_need};
 ghost use Rattle.state.specs.State.{last_correct, behind, sent_before, slot_of, start_of, length_ok, numbers_ok, well_formed, fresh_of, renewed};
 ghost use Rattle.state.specs.Gate.{after, only, entry_of, gate_of};
-ghost use Rattle.base.specs.Range.{least_of};
+ghost use Rattle.base.specs.Answer.{answer_of};
 ghost use Rattle.state.specs.Timer.{elapsed, left, due, packet_due, acknowledge_due, packet_left, acknowledge_left, time_left};
 ghost use Rattle.state.specs.Calls.{zeros, started, became_fresh, reset_sent, resynchronised};
 
 use base::answer;
+use base::answer::Refusal;
 use frame::Format;
 
 // R2.1
-#[derive(Clone, Copy)]
+#[derive(Clone, Copy, Default)]
 pub struct Settings {
     pub format: Format,
     pub transtimeout: u16,
@@ -24,7 +25,7 @@ pub struct Settings {
 }
 
 // R5.1, with its arrays in the form of R12.5
-#[derive(Clone, Copy)]
+#[derive(Clone, Copy, Default)]
 pub struct Link {
     pub settings: Settings,
     pub starts: [u32; 2],
@@ -86,11 +87,7 @@ pub fn slot_of(l: Link, number: u8) -> usize
 pub fn limit(s: Settings) -> usize
     ensures { result ≡ limit_of s }
 {
-    if 5 <= s.format.d {
-        (s.format.d - 5) as usize
-    } else {
-        0
-    }
+    s.format.d.saturating_sub(5) as usize
 }
 
 // ---- well formed
@@ -134,23 +131,20 @@ fn numbers_ok(l: Link) -> bool
 fn well_formed(l: Link) -> bool
     ensures { result ≡ well_formed l }
 {
-    if in_range(l.settings) {
-        return numbers_ok(l);
-    }
-    false
+    in_range(l.settings) && numbers_ok(l)
 }
 
 // ---- the gate
 
 // An answer with a state, and nothing else told.
-pub fn answer_only(l: Link, answer: u8) -> Outcome
-    ensures { result ≡ only l answer }
+pub fn answer_only(l: Link, outcome: Result<(), Refusal>) -> Outcome
+    ensures { result ≡ only l (answer_of outcome) }
 {
     Outcome {
         state: l,
         sent: 0,
         delivered: 0,
-        answer,
+        answer: answer::told(outcome),
         dropped: 0,
     }
 }
@@ -162,30 +156,27 @@ fn slots_need(s: Settings) -> usize
     (s.window as usize) * limit(s)
 }
 
-fn entry(l: Link, slots: usize, frame: usize) -> u8
-    ensures { result ≡ entry_of l slots frame }
+fn entry(l: Link, slots: usize, frame: usize) -> Result<(), Refusal>
+    ensures { answer_of result ≡ entry_of l slots frame }
 {
-    if well_formed(l) {
-        if (slots < slots_need(l.settings)) | (frame < l.settings.format.d as usize) {
-            return answer::SHORT_BUFFER;
-        }
-        return answer::DONE;
+    if !well_formed(l) {
+        return Err(Refusal::OutOfRange);
     }
-    answer::OUT_OF_RANGE
+    if (slots < slots_need(l.settings)) | (frame < l.settings.format.d as usize) {
+        return Err(Refusal::ShortBuffer);
+    }
+    Ok(())
 }
 
-// R9.1: what all calls refuse first, but for start and resynchronise: 1, 2 or 3, or 0.
-pub fn gate(l: Link, slots: usize, frame: usize) -> u8
-    ensures { result ≡ gate_of l slots frame }
+// R9.1: what all calls refuse first, but for start and resynchronise: 1, 2 or 3.
+pub fn gate(l: Link, slots: usize, frame: usize) -> Result<(), Refusal>
+    ensures { answer_of result ≡ gate_of l slots frame }
 {
-    let refusal = entry(l, slots, frame);
-    if refusal == answer::DONE {
-        if l.lost {
-            return answer::LINK_LOST;
-        }
-        return answer::DONE;
+    entry(l, slots, frame)?;
+    if l.lost {
+        return Err(Refusal::LinkLost);
     }
-    refusal
+    Ok(())
 }
 
 // ---- fresh
@@ -196,16 +187,7 @@ pub fn fresh(s: Settings) -> Link
 {
     Link {
         settings: s,
-        starts: [0, 0],
-        ackstart: 0,
-        lengths: [0, 0],
-        repeated: [0, 0],
-        next: 0,
-        expected: 0,
-        waiting: 0,
-        acking: false,
-        nakmark: false,
-        lost: false,
+        ..Link::default()
     }
 }
 
@@ -235,18 +217,14 @@ pub fn become_fresh(l: Link, sent: u16) -> Outcome
 fn elapsed_since(start: u32, ms: u32) -> u32
     ensures { result ≡ elapsed start ms }
 {
-    std::num::wrapping_sub_u32(ms, start)
+    ms.wrapping_sub(start)
 }
 
 // The one test of a timer: 0 means due.
 fn left_of(timeout: u16, start: u32, ms: u32) -> u16
     ensures { result ≡ left timeout start ms }
 {
-    let passed = elapsed_since(start, ms);
-    if passed < timeout as u32 {
-        return timeout - passed as u16;
-    }
-    0
+    u32::from(timeout).saturating_sub(elapsed_since(start, ms)) as u16
 }
 
 // R12.5: the start time of the packet that n were sent after, found by its slot.
@@ -295,21 +273,16 @@ fn acknowledge_left(l: Link, ms: u32) -> u16
     NO_TIMER
 }
 
-fn least(a: u16, b: u16) -> u16
-    ensures { result ≡ least_of a b }
-{
-    if a < b { a } else { b }
-}
-
 // R6.6: 0 where a timer is due, NO_TIMER where none runs.
 pub fn time_left(l: Link, ms: u32) -> u16
     ensures { result ≡ time_left l ms }
 {
-    if well_formed(l) {
-        let packet = least(packet_left(l, 0, ms), packet_left(l, 1, ms));
-        return least(packet, acknowledge_left(l, ms));
+    if !well_formed(l) {
+        return NO_TIMER;
     }
-    NO_TIMER
+    packet_left(l, 0, ms)
+        .min(packet_left(l, 1, ms))
+        .min(acknowledge_left(l, ms))
 }
 
 // ---- start and resynchronise
@@ -318,26 +291,20 @@ pub fn time_left(l: Link, ms: u32) -> u16
 pub fn zero_state() -> Link
     ensures { result ≡ zeros }
 {
-    fresh(Settings {
-        format: Format { d: 0, order: 0 },
-        transtimeout: 0,
-        acktimeout: 0,
-        window: 0,
-        repeats: 0,
-    })
+    Link::default()
 }
 
 // R1.3: an end to begin with, fresh, or the state of zeros where it is refused.
 pub fn start(s: Settings, slots: &[u8]) -> Outcome
     ensures { result ≡ started s (length slots.now) }
 {
-    if in_range(s) {
-        if slots.len() < slots_need(s) {
-            return answer_only(zero_state(), answer::SHORT_BUFFER);
-        }
-        return answer_only(fresh(s), answer::DONE);
+    if !in_range(s) {
+        return answer_only(zero_state(), Err(Refusal::OutOfRange));
     }
-    answer_only(zero_state(), answer::OUT_OF_RANGE)
+    if slots.len() < slots_need(s) {
+        return answer_only(zero_state(), Err(Refusal::ShortBuffer));
+    }
+    answer_only(fresh(s), Ok(()))
 }
 
 fn send_reset(l: Link, slots: &[u8], frame: &mut [u8]) -> Outcome
@@ -352,9 +319,8 @@ fn send_reset(l: Link, slots: &[u8], frame: &mut [u8]) -> Outcome
 pub fn resynchronise(l: Link, slots: &[u8], frame: &mut [u8], _ms: u32) -> Outcome
     ensures { after result slots.now frame.new ≡ resynchronised l slots.now frame.old }
 {
-    let refusal = entry(l, slots.len(), frame.len());
-    if refusal == answer::DONE {
-        return send_reset(l, slots, frame);
+    match entry(l, slots.len(), frame.len()) {
+        Ok(()) => send_reset(l, slots, frame),
+        Err(refusal) => answer_only(l, Err(refusal)),
     }
-    answer_only(l, refusal)
 }
