@@ -1,5 +1,5 @@
 // look and acknowledge: what the time does (R6.2 to R6.4).
-#![tactic(auto)]
+#![tactic(auto, unfolding(crate::specs::Look::looked_open, crate::specs::Look::looked, crate::specs::Look::acknowledged_now))]
 
 ghost use Rattle.std.specs.Prelude.{◌≡◌, ◌≤◌, ◌<◌, length};
 ghost use Rattle.base.specs.Answer.{done};
@@ -8,7 +8,7 @@ ghost use Rattle.state.specs.Gate.{after, gate_of};
 ghost use Rattle.state.specs.Formed.{Usable};
 ghost use Rattle.clock.specs.Look.{after_oldest, exhausted, served, acknowledged_if, looked_newer, looked_open, looked, acknowledged_now};
 
-use base::answer;
+use base::answer::Refusal;
 use state::{Link, Outcome};
 
 // look's answer: a type of its own, so that it can tell more than the other calls' do later, e.g. when the next timer is due.
@@ -22,7 +22,7 @@ pub struct Looked {
 fn after_oldest(l: Link) -> u8
     ensures { result ≡ after_oldest l }
 {
-    if 1 <= l.waiting { l.waiting - 1 } else { 0 }
+    l.waiting.saturating_sub(1)
 }
 
 // R6.3: the one place where the link is lost. It is lent what sending needs, though it sends nothing.
@@ -30,9 +30,7 @@ fn lose(l: Link, slots: &[u8], frame: &mut [u8]) -> Outcome
     requires { 5 ≤ length frame.old }
     ensures { after result slots.now frame.new ≡ exhausted l slots.now frame.old }
 {
-    let mut k = l;
-    k.lost = true;
-    state::answer_only(k, answer::LINK_LOST)
+    state::answer_only(Link { lost: true, ..l }, Err(Refusal::LinkLost))
 }
 
 // R6.3: serves the packet that n were sent after.
@@ -43,7 +41,7 @@ fn serve(l: Link, slots: &[u8], frame: &mut [u8], ms: u32, n: u8) -> Outcome
     let number = state::sent_before(l, n);
     if send::may_repeat(l, number) {
         let sent = send::repeat(l, slots, frame, ms, number);
-        return send::conclude(sent, answer::DONE, 0);
+        return send::conclude(sent, Ok(()), 0);
     }
     lose(l, slots, frame)
 }
@@ -56,9 +54,9 @@ fn acknowledge_if(l: Link, slots: &[u8], frame: &mut [u8], owed: bool) -> Outcom
 {
     if owed {
         let sent = send::send_ack(l, frame);
-        return send::conclude(sent, answer::DONE, 0);
+        return send::conclude(sent, Ok(()), 0);
     }
-    state::answer_only(l, answer::DONE)
+    state::answer_only(l, Ok(()))
 }
 
 fn look_newer(l: Link, slots: &[u8], frame: &mut [u8], ms: u32) -> Outcome
@@ -86,12 +84,10 @@ fn look_open(l: Link, slots: &[u8], frame: &mut [u8], ms: u32) -> Outcome
 pub fn look(l: Link, slots: &[u8], frame: &mut [u8], ms: u32) -> Looked
     ensures { after result slots.now frame.new ≡ looked l slots.now frame.old ms }
 {
-    let refusal = state::gate(l, slots.len(), frame.len());
-    if refusal == answer::DONE {
-        let outcome = look_open(l, slots, frame, ms);
-        return Looked { outcome };
-    }
-    let outcome = state::answer_only(l, refusal);
+    let outcome = match state::gate(l, slots.len(), frame.len()) {
+        Ok(()) => look_open(l, slots, frame, ms),
+        Err(refusal) => state::answer_only(l, Err(refusal)),
+    };
     Looked { outcome }
 }
 
@@ -99,9 +95,8 @@ pub fn look(l: Link, slots: &[u8], frame: &mut [u8], ms: u32) -> Looked
 pub fn acknowledge(l: Link, slots: &[u8], frame: &mut [u8], _ms: u32) -> Outcome
     ensures { after result slots.now frame.new ≡ acknowledged_now l slots.now frame.old }
 {
-    let refusal = state::gate(l, slots.len(), frame.len());
-    if refusal == answer::DONE {
-        return acknowledge_if(l, slots, frame, l.acking);
+    match state::gate(l, slots.len(), frame.len()) {
+        Ok(()) => acknowledge_if(l, slots, frame, l.acking),
+        Err(refusal) => state::answer_only(l, Err(refusal)),
     }
-    state::answer_only(l, refusal)
 }

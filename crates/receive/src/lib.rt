@@ -1,5 +1,5 @@
 // take: what a received frame does, R4.
-#![tactic(auto)]
+#![tactic(auto, unfolding(crate::specs::Take::data_taken, crate::specs::Take::obeyed, crate::specs::Take::frame_taken))]
 
 ghost use Rattle.std.specs.Prelude.{◌≡◌, true, false, ◌+◌, ◌≤◌, ◌<◌, length};
 ghost use Rattle.base.specs.Answer.{done};
@@ -11,7 +11,7 @@ ghost use Rattle.send.specs.Repeat.{Ready};
 ghost use Rattle.receive.specs.Steps.{freed, repeatable, after_step6, after_delivery};
 ghost use Rattle.receive.specs.Take.{refused_with_nak, repeated_or, nak_obeyed, data_delivered, data_passed, data_taken, obeyed, frame_taken};
 
-use base::answer;
+use base::answer::Refusal;
 use frame::Heard;
 use send::Sent;
 use state::{Link, Outcome};
@@ -106,7 +106,7 @@ fn deliver_data(
 {
     let seventh = deliver(sixth, ms);
     let sent = repeat_or_nothing(seventh, slots, frame, ms, acknowledged, repeat);
-    send::conclude(sent, answer::DONE, len)
+    send::conclude(sent, Ok(()), len)
 }
 
 fn pass_data(
@@ -121,7 +121,7 @@ fn pass_data(
     ensures { after result slots.now frame.new ≡ data_passed sixth slots.now frame.old ms acknowledged repeat }
 {
     let sent = repeat_or_ack(sixth, slots, frame, ms, acknowledged, repeat);
-    send::conclude(sent, answer::UNEXPECTED, 0)
+    send::conclude(sent, Err(Refusal::Unexpected), 0)
 }
 
 fn take_data(
@@ -162,7 +162,7 @@ fn obey_nak(l: Link, slots: &[u8], frame: &mut [u8], ms: u32, number: u8) -> Out
 {
     let repeat = is_repeatable(l, number);
     let sent = repeat_or_nothing(l, slots, frame, ms, number, repeat);
-    send::conclude(sent, answer::DONE, 0)
+    send::conclude(sent, Ok(()), 0)
 }
 
 fn obey(l: Link, slots: &[u8], frame: &mut [u8], ms: u32, h: Heard) -> Outcome
@@ -176,7 +176,7 @@ fn obey(l: Link, slots: &[u8], frame: &mut [u8], ms: u32, h: Heard) -> Outcome
         Heard::ControlSize => state::answer_only(l, frame::refusal(Heard::ControlSize)),
         Heard::Length => refuse(l, slots, frame, Heard::Length),
         Heard::Reset => state::become_fresh(l, 0),
-        Heard::Ack(number) => state::answer_only(free(l, number), answer::DONE),
+        Heard::Ack(number) => state::answer_only(free(l, number), Ok(())),
         Heard::Nak(number) => obey_nak(l, slots, frame, ms, number),
         Heard::Data {
             number,
@@ -191,10 +191,14 @@ fn obey(l: Link, slots: &[u8], frame: &mut [u8], ms: u32, h: Heard) -> Outcome
 pub fn take(l: Link, slots: &[u8], frame: &mut [u8], ms: u32, received: &[u8]) -> Outcome
     ensures { after result slots.now frame.new ≡ frame_taken l slots.now frame.old ms received.now }
 {
-    let refusal = state::gate(l, slots.len(), frame.len());
-    if refusal == answer::DONE {
-        let h = frame::hear(l.settings.format, received);
-        return obey(l, slots, frame, ms, h);
+    match state::gate(l, slots.len(), frame.len()) {
+        Ok(()) => obey(
+            l,
+            slots,
+            frame,
+            ms,
+            frame::hear(l.settings.format, received),
+        ),
+        Err(refusal) => state::answer_only(l, Err(refusal)),
     }
-    state::answer_only(l, refusal)
 }

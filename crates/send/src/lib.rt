@@ -1,7 +1,8 @@
 // What an end sends: submit, and the one maker of a repeat, of a control ACK and of a control NAK.
-#![tactic(auto)]
+#![tactic(auto, unfolding(crate::specs::Submit::submit_gate, crate::specs::Submit::submitted))]
 
 ghost use Rattle.std.specs.Prelude.{◌≡◌, ◌+◌, ◌≤◌, ◌<◌, length};
+ghost use Rattle.base.specs.Answer.{answer_of};
 ghost use Rattle.base.specs.Buffer.{put};
 ghost use Rattle.state.specs.Bounds.{limit_of};
 ghost use Rattle.state.specs.Gate.{after};
@@ -11,6 +12,7 @@ ghost use Rattle.send.specs.Repeat.{part_of, data_sent, again, may_repeat, Ready
 ghost use Rattle.send.specs.Makers.{sending, repeat_frame, sends_repeat, ack_stopped, sends_ack, marked, sends_nak};
 ghost use Rattle.send.specs.Submit.{submit_gate, added, sent_first, first_frame, packet_accepted, Acceptable, submitted};
 
+use base::answer::Refusal;
 use base::{answer, buffer};
 use state::{Link, Outcome};
 
@@ -22,15 +24,14 @@ pub struct Sent {
 }
 
 // What a call tells whose frame, if any, was made by a maker below: no packet is dropped.
-pub fn conclude(s: Sent, answer: u8, delivered: u16) -> Outcome
-    ensures { result ≡ record { state = s.state; sent = s.sent; delivered = delivered; dropped = 0; answer = answer } }
+pub fn conclude(s: Sent, outcome: Result<(), Refusal>, delivered: u16) -> Outcome
+    ensures { result ≡ record { state = s.state; sent = s.sent; delivered = delivered; dropped = 0; answer = answer_of outcome } }
 {
-    let state = s.state;
     Outcome {
-        state,
+        state: s.state,
         sent: s.sent,
         delivered,
-        answer,
+        answer: answer::told(outcome),
         dropped: 0,
     }
 }
@@ -123,9 +124,7 @@ pub fn repeat(l: Link, slots: &[u8], frame: &mut [u8], ms: u32, number: u8) -> S
 fn stop_acknowledging(l: Link) -> Link
     ensures { result ≡ ack_stopped l }
 {
-    let mut k = l;
-    k.acking = false;
-    k
+    Link { acking: false, ..l }
 }
 
 // Sends a control ACK of the last correct number.
@@ -141,9 +140,7 @@ pub fn send_ack(l: Link, frame: &mut [u8]) -> Sent
 fn mark(l: Link) -> Link
     ensures { result ≡ marked l }
 {
-    let mut k = l;
-    k.nakmark = true;
-    k
+    Link { nakmark: true, ..l }
 }
 
 // Sends a control NAK, unless one was sent since the last delivery.
@@ -161,21 +158,17 @@ pub fn send_nak(l: Link, frame: &mut [u8]) -> Sent
 
 // ---- submit
 
-fn submit_gate(l: Link, slots: usize, frame: usize, packet: usize) -> u8
-    ensures { result ≡ submit_gate l slots frame packet }
+fn submit_gate(l: Link, slots: usize, frame: usize, packet: usize) -> Result<(), Refusal>
+    ensures { answer_of result ≡ submit_gate l slots frame packet }
 {
-    let refusal = state::gate(l, slots, frame);
-    if refusal == answer::DONE {
-        let limit = state::limit(l.settings);
-        if (1 <= packet) & (packet <= limit) {
-            if l.waiting < l.settings.window {
-                return answer::DONE;
-            }
-            return answer::WINDOW_FULL;
-        }
-        return answer::PACKET_SIZE;
+    state::gate(l, slots, frame)?;
+    if packet < 1 || state::limit(l.settings) < packet {
+        return Err(Refusal::PacketSize);
     }
-    refusal
+    if l.settings.window <= l.waiting {
+        return Err(Refusal::WindowFull);
+    }
+    Ok(())
 }
 
 fn add(l: Link, packet: u16) -> Link
@@ -227,16 +220,15 @@ fn accept(l: Link, slots: &mut [u8], frame: &mut [u8], ms: u32, packet: &[u8]) -
     store(l, slots, packet);
     let sent = write_first(l, frame, packet);
     let state = send_first(l, ms, packet.len() as u16);
-    conclude(Sent { state, sent }, answer::DONE, 0)
+    conclude(Sent { state, sent }, Ok(()), 0)
 }
 
 // Takes a packet, if nothing stands against it, and sends its frame.
 pub fn submit(l: Link, slots: &mut [u8], frame: &mut [u8], ms: u32, packet: &[u8]) -> Outcome
     ensures { after result slots.new frame.new ≡ submitted l slots.old frame.old ms packet.now }
 {
-    let refusal = submit_gate(l, slots.len(), frame.len(), packet.len());
-    if refusal == answer::DONE {
-        return accept(l, slots, frame, ms, packet);
+    match submit_gate(l, slots.len(), frame.len(), packet.len()) {
+        Ok(()) => accept(l, slots, frame, ms, packet),
+        Err(refusal) => state::answer_only(l, Err(refusal)),
     }
-    state::answer_only(l, refusal)
 }
