@@ -1,5 +1,5 @@
 -- What taking a frame cites.
-use Rattle.std.proofs.Common.{◌≡◌, sym, subst, ◌∙◌, Bool, true, false, true≢false, ◌&&◌, List, ℕ, ◌<◌, ◌≤◌, length, eqb, arith, ltb-true, eq-eqb, ne_eqb, eqb-true}
+use Rattle.std.proofs.Common.{◌≡◌, sym, subst, ◌∙◌, Bool, true, false, true≢false, ◌&&◌, List, ℕ, ◌<◌, ◌≤◌, length, eqb, arith, ltb-true, eqb-true}
 use borrow.Author.Tests.{eqb-false}
 use Rattle.base.specs.Answer.{done, unexpected}
 use Rattle.base.proofs.Tests.{and_left, and_right, cond_cases}
@@ -15,7 +15,7 @@ use Rattle.send.specs.Repeat.{may_repeat, Ready}
 use Rattle.send.specs.Makers.{silent, concluded, sends_ack}
 use Rattle.send.proofs.Facts.{waiting_ready}
 use Rattle.receive.specs.Steps.{freed, repeatable, after_step6, after_delivery}
-use Rattle.receive.specs.Take.{repeated_or, data_delivered, data_passed, data_taken, obeyed, frame_taken}
+use Rattle.receive.specs.Take.{repeated_or, data_delivered, data_taken, obeyed, frame_taken}
 
 -- take behind an open gate
 pub frame_taken_open : (l : Link) (slots frame : List ℕ) (ms : ℕ) (received : List ℕ) → gate_of l (length slots) (length frame) ≡ done
@@ -64,19 +64,6 @@ pub delivered_by_lem : (sixth seventh : Link) (slots frame : List ℕ) (ms ackno
     → r ≡ data_delivered sixth slots frame ms acknowledged repeat len
 delivered_by_lem sixth seventh slots frame ms acknowledged repeat len r e q =
     subst (λ (k : Link). r ≡ concluded (repeated_or repeat k slots frame ms acknowledged (silent k frame)) done len slots) e q
-
--- a data frame taken, of the state after step 6 and of whether a packet is repeated
-pub delivered_data : (l sixth : Link) (slots frame : List ℕ) (ms number : ℕ) (nak repeat : Bool) (acknowledged len : ℕ) (r : After Outcome)
-    → number ≡ l.expected → repeat ≡ repeatable l acknowledged → sixth ≡ after_step6 l nak acknowledged
-    → r ≡ data_delivered sixth slots frame ms acknowledged (nak && repeat) len → r ≡ data_taken l slots frame ms number nak acknowledged len
-unfolding data_taken
-delivered_data l sixth slots frame ms number nak repeat acknowledged len r n e six q = rw (eq-eqb number l.expected n, ← e, ← six) q
-
-pub passed_data : (l sixth : Link) (slots frame : List ℕ) (ms number : ℕ) (nak repeat : Bool) (acknowledged len : ℕ) (r : After Outcome)
-    → (number ≡ l.expected → ⊥) → repeat ≡ repeatable l acknowledged → sixth ≡ after_step6 l nak acknowledged
-    → r ≡ data_passed sixth slots frame ms acknowledged (nak && repeat) → r ≡ data_taken l slots frame ms number nak acknowledged len
-unfolding data_taken
-passed_data l sixth slots frame ms number nak repeat acknowledged len r n e six q = rw (ne_eqb number l.expected n, ← e, ← six) q
 
 -- data that carries an ACK: the expected number is delivered, and no other
 pub data_taken_lem : (P : After Outcome → Type 0) (l : Link) (slots frame : List ℕ) (ms number acknowledged len : ℕ)

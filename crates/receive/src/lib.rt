@@ -65,33 +65,6 @@ fn deliver(l: Link, ms: u32) -> Link
     k
 }
 
-fn repeat_or_nothing(
-    l: Link,
-    slots: &[u8],
-    frame: &mut [u8],
-    ms: u32,
-    number: u8,
-    repeat: bool,
-) -> Sent
-    requires { repeat ≡ true → Ready l number (length slots.now) (length frame.old) }
-    ensures { sending result frame.new ≡ repeated_or repeat l slots.now frame.old ms number (silent l frame.old) }
-{
-    if repeat {
-        return send::repeat(l, slots, frame, ms, number);
-    }
-    Sent { state: l, sent: 0 }
-}
-
-fn repeat_or_ack(l: Link, slots: &[u8], frame: &mut [u8], ms: u32, number: u8, repeat: bool) -> Sent
-    requires { (repeat ≡ true → Ready l number (length slots.now) (length frame.old)) × (5 ≤ length frame.old) }
-    ensures { sending result frame.new ≡ repeated_or repeat l slots.now frame.old ms number (sends_ack l frame.old) }
-{
-    if repeat {
-        return send::repeat(l, slots, frame, ms, number);
-    }
-    send::send_ack(l, frame)
-}
-
 fn deliver_data(
     sixth: Link,
     slots: &[u8],
@@ -105,7 +78,14 @@ fn deliver_data(
     ensures { after result slots.now frame.new ≡ data_delivered sixth slots.now frame.old ms acknowledged repeat len }
 {
     let seventh = deliver(sixth, ms);
-    let sent = repeat_or_nothing(seventh, slots, frame, ms, acknowledged, repeat);
+    let sent = if repeat {
+        send::repeat(seventh, slots, frame, ms, acknowledged)
+    } else {
+        Sent {
+            state: seventh,
+            sent: 0,
+        }
+    };
     send::conclude(sent, Ok(()), len)
 }
 
@@ -120,7 +100,11 @@ fn pass_data(
     requires { (5 ≤ length frame.old) × (repeat ≡ true → Ready sixth acknowledged (length slots.now) (length frame.old)) }
     ensures { after result slots.now frame.new ≡ data_passed sixth slots.now frame.old ms acknowledged repeat }
 {
-    let sent = repeat_or_ack(sixth, slots, frame, ms, acknowledged, repeat);
+    let sent = if repeat {
+        send::repeat(sixth, slots, frame, ms, acknowledged)
+    } else {
+        send::send_ack(sixth, frame)
+    };
     send::conclude(sent, Err(Refusal::Unexpected), 0)
 }
 
@@ -160,9 +144,11 @@ fn obey_nak(l: Link, slots: &[u8], frame: &mut [u8], ms: u32, number: u8) -> Out
     requires { (gate_of l (length slots.now) (length frame.old) ≡ done) × Usable l (length frame.old) × (number ≤ 3) }
     ensures { after result slots.now frame.new ≡ nak_obeyed l slots.now frame.old ms number }
 {
-    let repeat = is_repeatable(l, number);
-    let sent = repeat_or_nothing(l, slots, frame, ms, number, repeat);
-    send::conclude(sent, Ok(()), 0)
+    if is_repeatable(l, number) {
+        let sent = send::repeat(l, slots, frame, ms, number);
+        return send::conclude(sent, Ok(()), 0);
+    }
+    state::answer_only(l, Ok(()))
 }
 
 fn obey(l: Link, slots: &[u8], frame: &mut [u8], ms: u32, h: Heard) -> Outcome
