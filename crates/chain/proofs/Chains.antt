@@ -1,35 +1,15 @@
 -- What the gates of joining say where they are open; the calls alone.
-use Rattle.std.proofs.Common.{◌≡◌, sym, ap, ◌∙◌, Bool, true, cond, ◌&&◌, List, ℕ, ◌≤◌, arith, ltb-false, eqb-true, length, get_or, ltb, leb, eqb}
-use Rattle.base.specs.Range.{within}
-use Rattle.base.specs.Answer.{done, out_of_range, short_buffer, packet_size, other_channel, chain_fault, fault_told, secured_packet, too_long}
-use Rattle.base.proofs.Tests.{and_left, cond_cases, within_low, within_high, passed, spared, first_refusal_four}
+use Rattle.std.proofs.Common.{◌≡◌, sym, ap, ◌∙◌, Bool, cond, ◌&&◌, List, ℕ, ◌≤◌, arith, ltb-false, eqb-true, ne_eqb, ◌≢◌, false, length, get_or, ltb, leb, eqb}
+use Rattle.base.specs.Answer.{done, chain_fault, fault_told, secured_packet, too_long}
+use borrow.Author.Tests.{lt-leb}
+use Rattle.base.proofs.Tests.{cond_cases, spared, first_refusal_four}
 use Rattle.chain.specs.declared.Joining.{Joining}
-use Rattle.chain.specs.Pctr.{only_channel, channel_of, secured_of, chain_of, fault}
-use Rattle.chain.specs.Cut.{limit_ok, longest, Cutting}
-use Rattle.chain.specs.Join.{closed, grown, Joins, joins, drops_chain, refusal, packet_gate, join_gate, begins, finishes, faulty, total_of, chain_gate, part_told, part_added, part_joined, joined}
+use Rattle.chain.specs.declared.pctr.Chain.{Chain}
+use Rattle.chain.specs.declared.pctr.Chain.TheVariants.{Whole, First, Middle, Last, Fault}
+use Rattle.chain.specs.Pctr.{only_channel, secured_of, chain_of, whole, first, middle, last, fault, bits_of}
+use Rattle.chain.specs.Cut.{longest, Cutting}
+use Rattle.chain.specs.Join.{closed, grown, Joins, joins, drops_chain, refusal, join_gate, begins, finishes, faulty, total_of, chain_gate, part_told, part_added, part_joined, joined}
 use Rattle.chain.specs.Promises.{CutSettled, JoinSettled, JoinKept}
-
-pub record Joinable (packet bytes : ℕ) : Type 0 where
-  pub least : 1 ≤ packet
-  pub most : packet ≤ 1019
-  pub room : longest ≤ bytes
-
-pub join_gate_facts : (m : ℕ) (j : Joining) (packet : List ℕ) (room : ℕ) → join_gate m j packet room ≡ done → Joinable (length packet) room
-unfolding join_gate packet_gate
-join_gate_facts m j packet room e =
-    let ok : Bool = limit_ok m && leb j.length longest in
-    let one : ℕ = cond ok done out_of_range in
-    let two : ℕ = cond (ltb room longest) short_buffer done in
-    let three : ℕ = cond (within 1 (length packet) m) done packet_size in
-    let four : ℕ = cond (eqb (channel_of (get_or packet 0 0)) only_channel) done other_channel in
-    let f : (one ≡ done) × (two ≡ done) × (three ≡ done) × (four ≡ done) = first_refusal_four one two three four e in
-    let m-ok : limit_ok m ≡ true = and_left (limit_ok m) (leb j.length longest) (passed ok out_of_range (omega arith) f.0) in
-    let size : within 1 (length packet) m ≡ true = passed (within 1 (length packet) m) packet_size (omega arith) f.2 in
-    record {
-      least = within_low 1 (length packet) m size;
-      most = omega (arith, within_high 1 (length packet) m size, within_high 11 m 1019 m-ok);
-      room = ltb-false room longest (spared (ltb room longest) short_buffer (omega arith) f.1);
-    }
 
 pub chain_gate_fits : (m : ℕ) (j : Joining) (pctr size : ℕ) → chain_gate m j pctr size ≡ done → total_of j (chain_of pctr) size ≤ longest
 unfolding chain_gate
@@ -40,6 +20,19 @@ chain_gate_fits m j pctr size e =
     let long : Bool = ltb longest (total_of j (chain_of pctr) size) in
     let four : ℕ = cond long too_long done in
     ltb-false longest (total_of j (chain_of pctr) size) (spared long too_long (omega arith) (first_refusal_four one two three four e).3)
+
+-- bits that no packet may have
+pub no_chain : (m : ℕ) (j : Joining) (pctr size : ℕ) → ((chain : Chain) → bits_of chain ≢ chain_of pctr) → chain_gate m j pctr size ≡ chain_fault
+unfolding chain_gate faulty
+no_chain m j pctr size none =
+    let bits : ℕ = chain_of pctr in
+    let not_whole : bits ≢ whole = λ e. none Whole (sym e) in
+    let not_first : bits ≢ first = λ e. none First (sym e) in
+    let not_middle : eqb bits middle ≡ false = ne_eqb bits middle (λ e. none Middle (sym e)) in
+    let not_last : eqb bits last ≡ false = ne_eqb bits last (λ e. none Last (sym e)) in
+    let not_fault : eqb bits fault ≡ false = ne_eqb bits fault (λ e. none Fault (sym e)) in
+    let goes_on : leb bits first ≡ false = lt-leb bits first (omega (arith, not_whole, not_first)) in
+    rw (not_fault, goes_on, not_middle, not_last)
 
 -- ---- the calls alone
 

@@ -1,16 +1,25 @@
 // Chaining: cut a message into packets, join packets to a message. Only this crate knows PCTR.
 #![tactic(auto)]
 
-ghost use Rattle.std.specs.Prelude.{◌≡◌, ◌∷◌, ◌+◌, ◌*◌, ◌≤◌, ◌<◌, length};
+ghost use Rattle.std.specs.Prelude.{◌≡◌, ◌∷◌, ◌+◌, ◌≤◌, ◌<◌, length, get_or, IfOk};
+ghost use Rattle.base.specs.Answer.{number_of, answer_of};
 ghost use Rattle.base.specs.Buffer.{put};
-ghost use Rattle.base.specs.Range.{least_of};
-ghost use Rattle.chain.specs.Pctr.{pctr_of};
-ghost use Rattle.chain.specs.Cut.{limit_ok, part_size, packet_count, chain_at, part_at, message_gate, cut_gate, cutting, given, cut_out};
+ghost use Rattle.chain.specs.Pctr.{chain_of, bits_of};
+ghost use Rattle.chain.specs.Cut.{packet_count, message_gate, cut_gate, cutting, given, cut_out};
 ghost use Rattle.chain.specs.Join.{fresh_joining, closed, grown, joins, drops_chain, fault_of, refusal, packet_gate, join_gate, faulty, place_of, total_of, chain_gate, part_told, part_added, part_joined, joined};
 
+mod limit;
+mod packet;
+mod pctr;
+
+use base::answer::Refusal;
 use base::{answer, buffer};
+use limit::Limit;
+use packet::Packet;
+use pctr::{Chain, Channel};
 
 // R1.6: what cut tells of a packet.
+// Stays: `cut_out` says each of the three, the answer as a number (R8).
 #[derive(Clone, Copy)]
 pub struct Piece {
     pub count: u16,
@@ -19,6 +28,7 @@ pub struct Piece {
 }
 
 // R7.4: what is kept of a message whose packets are being joined.
+// Stays: `joined` takes a length without an open chain too (D49), and refuses one above 4,096 (R8.1).
 #[derive(Clone, Copy)]
 pub struct Joining {
     pub length: u16,
@@ -26,6 +36,7 @@ pub struct Joining {
 }
 
 // R1.6, R7.6: what join tells: with answer 10 also the packet that tells the peer of it, as a number.
+// Stays: `joined` says each of the four, the answer as a number (R8), and a fault of 0 where there is none (D54).
 #[derive(Clone, Copy)]
 pub struct Joined {
     pub state: Joining,
@@ -34,96 +45,37 @@ pub struct Joined {
     pub fault: u8,
 }
 
-const LEAST_LIMIT: u16 = 11;
-
-const MOST_LIMIT: u16 = 1019;
-
 const LONGEST: usize = 4096;
-
-// R1.1: the one channel that is built.
-const CHANNEL: u8 = 0;
-
-// CHAIN: R7.2, R7.3, R7.5
-const WHOLE: u8 = 0;
-
-const FIRST: u8 = 1;
-
-const MIDDLE: u8 = 2;
-
-const LAST: u8 = 4;
-
-const FAULT: u8 = 7;
-
-fn pctr(channel: u8, chain: u8) -> u8
-    requires { (channel ≤ 15) × (chain ≤ 7) }
-    ensures { result ≡ pctr_of channel chain }
-{
-    channel * 16 + chain
-}
-
-fn is_limit(m: u16) -> bool
-    ensures { result ≡ limit_ok m }
-{
-    (LEAST_LIMIT <= m) & (m <= MOST_LIMIT)
-}
 
 // ---- cut
 
-fn count_packets(m: u16, message: usize) -> usize
-    requires { (11 ≤ m) × (message ≤ 4096) }
-    ensures { result ≡ packet_count m message }
+#[tactic(auto, unfolding(crate::specs::Cut::message_gate))]
+fn message_gate(limit: Limit, message: usize, i: usize) -> Result<(), Refusal>
+    ensures { answer_of result ≡ message_gate limit.m message i }
 {
-    let part = (m - 1) as usize;
-    (message + (part - 1)) / part
+    if message == 0 || LONGEST < message {
+        return Err(Refusal::MessageSize);
+    }
+    if limit.count(message) <= i {
+        return Err(Refusal::NoSuchPacket);
+    }
+    Ok(())
 }
 
-fn chain_at(i: usize, count: usize) -> u8
-    requires { i < count }
-    ensures { (result ≡ chain_at i count) × (result ≤ 7) }
+#[tactic(auto, unfolding(crate::specs::Cut::cut_gate))]
+fn cut_gate(m: u16, buffer: usize, message: usize, i: usize) -> Result<Limit, Refusal>
+    ensures order { answer_of result ≡ cut_gate m buffer message i }
+    ensures same { IfOk result (λ limit. limit.m ≡ m) }
 {
-    if count == 1 {
-        return WHOLE;
+    let limit = Limit::new(m)?;
+    if buffer < limit.bytes() {
+        return Err(Refusal::ShortBuffer);
     }
-    if i == 0 {
-        return FIRST;
-    }
-    if i + 1 == count {
-        return LAST;
-    }
-    MIDDLE
+    message_gate(limit, message, i)?;
+    Ok(limit)
 }
 
-fn message_gate(m: u16, message: usize, i: usize) -> u8
-    requires { 11 ≤ m }
-    ensures { result ≡ message_gate m message i }
-{
-    if (1 <= message) & (message <= LONGEST) {
-        if i < count_packets(m, message) {
-            return answer::DONE;
-        }
-        return answer::NO_SUCH_PACKET;
-    }
-    answer::MESSAGE_SIZE
-}
-
-fn cut_gate(m: u16, buffer: usize, message: usize, i: usize) -> u8
-    ensures { result ≡ cut_gate m buffer message i }
-{
-    if is_limit(m) {
-        if buffer < m as usize {
-            return answer::SHORT_BUFFER;
-        }
-        return message_gate(m, message, i);
-    }
-    answer::OUT_OF_RANGE
-}
-
-fn least(a: usize, b: usize) -> usize
-    ensures { (result ≡ least_of a b) × (result ≤ a) × (result ≤ b) }
-{
-    if a < b { a } else { b }
-}
-
+#[tactic(auto, using(crate::proofs::Parts::laid))]
 fn lay(packet: &mut [u8], pctr: u8, part: &[u8])
     requires { length part.now + 1 ≤ length packet.old }
     ensures { packet.new ≡ put packet.old 0 (pctr ∷ part.now) }
@@ -132,44 +84,32 @@ fn lay(packet: &mut [u8], pctr: u8, part: &[u8])
     buffer::copy_at(packet, 1, part);
 }
 
-// R7.3: lays part i of the message behind its PCTR, and gives the part's length.
-fn lay_part(m: u16, message: &[u8], i: usize, pctr: u8, packet: &mut [u8]) -> usize
-    requires { ((11 ≤ m) × (m ≤ 1019)) × (length message.now ≤ 4096) × (m ≤ length packet.old) × (i * part_size m < length message.now) }
-    ensures { (result ≡ length (part_at m message.now i)) × (result ≤ 1018) × (packet.new ≡ put packet.old 0 (pctr ∷ part_at m message.now i)) }
+fn give(limit: Limit, channel: Channel, message: &[u8], i: usize, packet: &mut [u8]) -> Piece
+    requires { (length message.now ≤ 4096) × (limit.m ≤ length packet.old) × (i < packet_count limit.m (length message.now)) }
+    ensures { cutting result packet.new ≡ given limit.m channel.number message.now i packet.old }
 {
-    let part = (m - 1) as usize;
-    let at = i * part;
-    let size = least(part, message.len() - at);
-    let end = at + size;
-    lay(packet, pctr, &message[at..end]);
-    size
-}
-
-fn give(m: u16, channel: u8, message: &[u8], i: usize, packet: &mut [u8]) -> Piece
-    requires { ((11 ≤ m) × (m ≤ 1019)) × (length message.now ≤ 4096) × (m ≤ length packet.old) × (i < packet_count m (length message.now)) × (channel ≤ 15) }
-    ensures { cutting result packet.new ≡ given m channel message.now i packet.old }
-{
-    let count = count_packets(m, message.len());
-    let size = lay_part(m, message, i, pctr(channel, chain_at(i, count)), packet);
+    let count = limit.count(message.len());
+    let part = limit.part(message, i);
+    lay(packet, channel.pctr(Chain::at(i, count)), part);
     Piece {
         count: count as u16,
-        length: (size + 1) as u16,
+        length: (part.len() + 1) as u16,
         answer: answer::DONE,
     }
 }
 
 // R1.6: gives packet i of a message, if there is one.
+#[tactic(auto, unfolding(crate::specs::Cut::cut_out))]
 pub fn cut(m: u16, message: &[u8], i: u32, packet: &mut [u8]) -> Piece
     ensures { cutting result packet.new ≡ cut_out m message.now i packet.old }
 {
-    let refusal = cut_gate(m, packet.len(), message.len(), i as usize);
-    if refusal == answer::DONE {
-        return give(m, CHANNEL, message, i as usize, packet);
-    }
-    Piece {
-        count: 0,
-        length: 0,
-        answer: refusal,
+    match cut_gate(m, packet.len(), message.len(), i as usize) {
+        Ok(limit) => give(limit, Channel::ONLY, message, i as usize, packet),
+        Err(refusal) => Piece {
+            count: 0,
+            length: 0,
+            answer: refusal.number(),
+        },
     }
 }
 
@@ -185,175 +125,187 @@ pub fn fresh_joining() -> Joining
     }
 }
 
-fn drops_chain(answer: u8) -> bool
-    ensures { result ≡ drops_chain answer }
-{
-    (answer == answer::CHAIN_FAULT)
-        | ((answer == answer::TOO_LONG) | (answer == answer::FAULT_TOLD))
-}
-
-fn fault_of(channel: u8, answer: u8) -> u8
-    requires { channel ≤ 15 }
-    ensures { result ≡ fault_of channel answer }
-{
-    if answer == answer::CHAIN_FAULT {
-        return pctr(channel, FAULT);
+// R7.8; what else a joining comes to hold stays (D93).
+impl Joining {
+    fn closed(self) -> Self
+        ensures { result ≡ closed self }
+    {
+        Joining {
+            length: 0,
+            opened: false,
+            ..self
+        }
     }
-    0
-}
 
-fn close(j: Joining) -> Joining
-    ensures { result ≡ closed j }
-{
-    let mut k = j;
-    k.length = 0;
-    k.opened = false;
-    k
-}
-
-fn grow(j: Joining, total: u16) -> Joining
-    ensures { result ≡ grown j total }
-{
-    let mut k = j;
-    k.length = total;
-    k.opened = true;
-    k
-}
-
-fn refuse(channel: u8, j: Joining, answer: u8) -> Joined
-    requires { channel ≤ 15 }
-    ensures { result ≡ refusal channel j answer }
-{
-    let fault = fault_of(channel, answer);
-    let mut state = j;
-    if drops_chain(answer) {
-        state = close(j);
+    fn grown(self, total: u16) -> Self
+        ensures { result ≡ grown self total }
+    {
+        Joining {
+            length: total,
+            opened: true,
+            ..self
+        }
     }
+
+    // R7.7: where in the room a part goes
+    fn place_of(self, chain: Chain) -> usize
+        ensures { (result ≡ place_of self (bits_of chain)) × (result < 65536) }
+    {
+        if chain.begins() {
+            0
+        } else {
+            usize::from(self.length)
+        }
+    }
+}
+
+fn drops_chain(refusal: Refusal) -> bool
+    ensures { result ≡ drops_chain (number_of refusal) }
+{
+    matches!(
+        refusal,
+        Refusal::ChainFault | Refusal::TooLong | Refusal::FaultTold
+    )
+}
+
+fn fault_of(channel: Channel, refusal: Refusal) -> u8
+    ensures { result ≡ fault_of channel.number (number_of refusal) }
+{
+    match refusal {
+        Refusal::ChainFault => channel.pctr(Chain::Fault),
+        _ => 0,
+    }
+}
+
+fn refuse(channel: Channel, j: Joining, why: Refusal) -> Joined
+    ensures { result ≡ refusal channel.number j (number_of why) }
+{
     Joined {
-        state,
+        state: if drops_chain(why) { j.closed() } else { j },
         length: 0,
-        answer,
-        fault,
+        answer: why.number(),
+        fault: fault_of(channel, why),
     }
 }
 
-fn packet_gate(m: u16, packet: &[u8]) -> u8
-    ensures { result ≡ packet_gate m packet.now }
+#[tactic(auto, unfolding(crate::specs::Join::packet_gate))]
+fn packet_gate<'a>(limit: Limit, bytes: &'a [u8]) -> Result<Packet<'a>, Refusal>
+    ensures order { answer_of result ≡ packet_gate limit.m bytes.now }
+    ensures same { IfOk result (λ packet. packet ≡ bytes.now) }
 {
-    if (1 <= packet.len()) & (packet.len() <= m as usize) {
-        if packet[0] / 16 == CHANNEL {
-            return answer::DONE;
-        }
-        return answer::OTHER_CHANNEL;
+    let packet = Packet::new(bytes).ok_or(Refusal::PacketSize)?;
+    if limit.bytes() < packet.size() {
+        return Err(Refusal::PacketSize);
     }
-    answer::PACKET_SIZE
+    if packet.channel() != Channel::ONLY {
+        return Err(Refusal::OtherChannel);
+    }
+    Ok(packet)
 }
 
-fn join_gate(m: u16, j: Joining, packet: &[u8], room: usize) -> u8
-    ensures { result ≡ join_gate m j packet.now room }
+#[tactic(auto, unfolding(crate::specs::Join::join_gate))]
+fn join_gate<'a>(
+    m: u16,
+    j: Joining,
+    bytes: &'a [u8],
+    room: usize,
+) -> Result<(Limit, Packet<'a>), Refusal>
+    ensures order { answer_of result ≡ join_gate m j bytes.now room }
+    ensures same { IfOk result (λ p. (p.0.m ≡ m) × (p.1 ≡ bytes.now)) }
 {
-    if is_limit(m) & (j.length <= LONGEST as u16) {
-        if room < LONGEST {
-            return answer::SHORT_BUFFER;
-        }
-        return packet_gate(m, packet);
+    let limit = Limit::new(m)?;
+    if LONGEST < usize::from(j.length) {
+        return Err(Refusal::OutOfRange);
     }
-    answer::OUT_OF_RANGE
+    if room < LONGEST {
+        return Err(Refusal::ShortBuffer);
+    }
+    let packet = packet_gate(limit, bytes)?;
+    Ok((limit, packet))
 }
 
 // ---- join: the chain, whatever the channel
 
-fn is_faulty(m: u16, opened: bool, chain: u8, size: usize) -> bool
-    ensures { result ≡ faulty m opened chain size }
+#[tactic(auto, unfolding(crate::specs::Join::faulty))]
+fn is_faulty(limit: Limit, opened: bool, chain: Chain, size: usize) -> bool
+    ensures { result ≡ faulty limit.m opened (bits_of chain) size }
 {
-    let begins = chain <= FIRST;
-    let goes_on = (chain == MIDDLE) | (chain == LAST);
-    let finishes = (chain == WHOLE) | (chain == LAST);
-    !(begins | goes_on)
-        | (begins & opened | goes_on & !opened)
-        | (!finishes & !(size == m as usize))
-        | (finishes & (size == 1))
+    match chain {
+        Chain::Whole => opened || size == 1,
+        Chain::First => opened || size != limit.bytes(),
+        Chain::Middle => !opened || size != limit.bytes(),
+        Chain::Last => !opened || size == 1,
+        Chain::Fault => true,
+    }
 }
 
-fn place_of(j: Joining, chain: u8) -> usize
-    ensures { (result ≡ place_of j chain) × (result < 65536) }
+#[tactic(auto, using(crate::proofs::Chains::no_chain), unfolding(crate::specs::Join::chain_gate))]
+fn chain_gate(limit: Limit, j: Joining, packet: &Packet) -> Result<Chain, Refusal>
+    ensures order { answer_of result ≡ chain_gate limit.m j (get_or packet.now 0 0) (length packet.now) }
+    ensures same { IfOk result (λ chain. bits_of chain ≡ chain_of (get_or packet.now 0 0)) }
 {
-    if chain <= FIRST { 0 } else { j.length as usize }
+    let chain = packet.chain()?;
+    if chain == Chain::Fault && packet.size() == 1 {
+        return Err(Refusal::FaultTold);
+    }
+    if is_faulty(limit, j.opened, chain, packet.size()) {
+        return Err(Refusal::ChainFault);
+    }
+    if packet.is_secured() && chain.begins() {
+        return Err(Refusal::SecuredPacket);
+    }
+    if LONGEST < j.place_of(chain) + packet.part().len() {
+        return Err(Refusal::TooLong);
+    }
+    Ok(chain)
 }
 
-fn chain_gate(m: u16, j: Joining, pctr: u8, size: usize) -> u8
-    requires { (1 ≤ size) × (size ≤ 1019) }
-    ensures { result ≡ chain_gate m j pctr size }
+fn tell(j: Joining, packet: &Packet, chain: Chain) -> Joined
+    requires { total_of j (bits_of chain) (length packet.now) ≤ 4096 }
+    ensures { result ≡ part_told j (bits_of chain) (length packet.now) }
 {
-    let chain = pctr % 8;
-    if (chain == FAULT) & (size == 1) {
-        return answer::FAULT_TOLD;
-    }
-    if is_faulty(m, j.opened, chain, size) {
-        return answer::CHAIN_FAULT;
-    }
-    if (pctr / 8 % 2 == 1) & (chain <= FIRST) {
-        return answer::SECURED_PACKET;
-    }
-    if LONGEST < place_of(j, chain) + (size - 1) {
-        return answer::TOO_LONG;
-    }
-    answer::DONE
-}
-
-fn tell(j: Joining, chain: u8, size: usize) -> Joined
-    requires fits { total_of j chain size ≤ 4096 }
-    requires has_pctr { 1 ≤ size }
-    ensures { result ≡ part_told j chain size }
-{
-    let total = (place_of(j, chain) + (size - 1)) as u16;
-    if (chain == WHOLE) | (chain == LAST) {
-        let state = close(j);
-        return Joined {
-            state,
-            length: total,
-            answer: answer::DONE,
-            fault: 0,
-        };
-    }
-    let state = grow(j, total);
+    let total = (j.place_of(chain) + packet.part().len()) as u16;
+    let (state, length) = if chain.finishes() {
+        (j.closed(), total)
+    } else {
+        (j.grown(total), 0)
+    };
     Joined {
         state,
-        length: 0,
+        length,
         answer: answer::DONE,
         fault: 0,
     }
 }
 
-fn add_part(j: Joining, packet: &[u8], chain: u8, room: &mut [u8]) -> Joined
-    requires { (1 ≤ length packet.now) × (total_of j chain (length packet.now) ≤ 4096) × (4096 ≤ length room.old) }
-    ensures { joins result room.new ≡ part_added j packet.now chain room.old }
+fn add_part(j: Joining, packet: &Packet, chain: Chain, room: &mut [u8]) -> Joined
+    requires { (total_of j (bits_of chain) (length packet.now) ≤ 4096) × (4096 ≤ length room.old) }
+    ensures { joins result room.new ≡ part_added j packet.now (bits_of chain) room.old }
 {
-    buffer::copy_at(room, place_of(j, chain), &packet[1..]);
-    tell(j, chain, packet.len())
+    buffer::copy_at(room, j.place_of(chain), packet.part());
+    tell(j, packet, chain)
 }
 
-fn join_part(m: u16, channel: u8, j: Joining, packet: &[u8], room: &mut [u8]) -> Joined
-    requires { (1 ≤ length packet.now) × (length packet.now ≤ 1019) × (4096 ≤ length room.old) × (channel ≤ 15) }
-    ensures { joins result room.new ≡ part_joined m channel j packet.now room.old }
+#[tactic(auto, unfolding(crate::specs::Join::part_joined))]
+fn join_part(limit: Limit, channel: Channel, j: Joining, packet: &Packet, room: &mut [u8]) -> Joined
+    requires { 4096 ≤ length room.old }
+    ensures { joins result room.new ≡ part_joined limit.m channel.number j packet.now room.old }
 {
-    let pctr = packet[0];
-    let refusal = chain_gate(m, j, pctr, packet.len());
-    if refusal == answer::DONE {
-        return add_part(j, packet, pctr % 8, room);
+    match chain_gate(limit, j, packet) {
+        Ok(chain) => add_part(j, packet, chain, room),
+        Err(refusal) => refuse(channel, j, refusal),
     }
-    refuse(channel, j, refusal)
 }
 
 // ---- join
 
 // R1.6: joins one packet to what is joined, if nothing of R7.5 stands against it.
+#[tactic(auto, unfolding(crate::specs::Join::joined))]
 pub fn join(m: u16, j: Joining, packet: &[u8], room: &mut [u8]) -> Joined
     ensures { joins result room.new ≡ joined m j packet.now room.old }
 {
-    let refusal = join_gate(m, j, packet, room.len());
-    if refusal == answer::DONE {
-        return join_part(m, CHANNEL, j, packet, room);
+    match join_gate(m, j, packet, room.len()) {
+        Ok((limit, packet)) => join_part(limit, Channel::ONLY, j, &packet, room),
+        Err(refusal) => refuse(Channel::ONLY, j, refusal),
     }
-    refuse(CHANNEL, j, refusal)
 }
