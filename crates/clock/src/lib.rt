@@ -1,5 +1,5 @@
 // look and acknowledge: what the time does (R6.2 to R6.4).
-#![tactic(auto, unfolding(crate::specs::Look::looked_open, crate::specs::Look::looked, crate::specs::Look::acknowledged_now))]
+#![tactic(auto)]
 
 ghost use Rattle.std.specs.Prelude.{◌≡◌, ◌≤◌, ◌<◌, length};
 ghost use Rattle.base.specs.Answer.{done};
@@ -69,6 +69,7 @@ fn look_newer(l: Link, slots: &[u8], frame: &mut [u8], ms: u32) -> Outcome
     acknowledge_if(l, slots, frame, state::is_acknowledge_due(l, ms))
 }
 
+#[tactic(auto, unfolding(crate::specs::Look::looked_open))]
 fn look_open(l: Link, slots: &[u8], frame: &mut [u8], ms: u32) -> Outcome
     requires { (gate_of l (length slots.now) (length frame.old) ≡ done) × Usable l (length frame.old) }
     ensures { after result slots.now frame.new ≡ looked_open l slots.now frame.old ms }
@@ -81,6 +82,7 @@ fn look_open(l: Link, slots: &[u8], frame: &mut [u8], ms: u32) -> Outcome
 }
 
 // R6.2: serves the first timer that is due, if any.
+#[tactic(auto, unfolding(crate::specs::Look::looked))]
 pub fn look(l: Link, slots: &[u8], frame: &mut [u8], ms: u32) -> Looked
     ensures { after result slots.now frame.new ≡ looked l slots.now frame.old ms }
 {
@@ -92,6 +94,7 @@ pub fn look(l: Link, slots: &[u8], frame: &mut [u8], ms: u32) -> Looked
 }
 
 // R6.4: sends the acknowledgement that is owed, if any.
+#[tactic(auto, unfolding(crate::specs::Look::acknowledged_now))]
 pub fn acknowledge(l: Link, slots: &[u8], frame: &mut [u8], _ms: u32) -> Outcome
     ensures { after result slots.now frame.new ≡ acknowledged_now l slots.now frame.old }
 {

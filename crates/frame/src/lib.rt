@@ -1,5 +1,5 @@
 // A frame's bytes, heard and written: R3, R4.1 to R4.4. Only this crate knows the place of a byte and the order of FCS.
-#![tactic(auto, unfolding(crate::specs::Steps::used, crate::specs::Steps::accepted, crate::specs::Steps::judged, crate::specs::Steps::fcs_at))]
+#![tactic(auto)]
 
 ghost use Rattle.std.specs.Prelude.{◌≡◌, [], ◌∷◌, ◌++◌, ◌+◌, ◌≤◌, ◌<◌, length, take};
 ghost use Rattle.base.specs.Answer.{answer_of};
@@ -73,6 +73,7 @@ fn len_of(frame: &[u8]) -> u16
     u16::from_be_bytes([frame[1], frame[2]])
 }
 
+#[tactic(auto, unfolding(crate::specs::Steps::fcs_at))]
 fn fcs_at(format: Format, frame: &[u8], at: usize) -> bool
     requires { at + 2 ≤ length frame.now }
     ensures { result ≡ fcs_at format at frame.now }
@@ -81,12 +82,14 @@ fn fcs_at(format: Format, frame: &[u8], at: usize) -> bool
     (frame[at] == right[0]) & (frame[at + 1] == right[1])
 }
 
+#[tactic(auto, unfolding(crate::specs::Steps::used))]
 fn is_used(fctr: u8) -> bool
     ensures { result ≡ used fctr }
 {
     matches!(fctr, 0x00..=0x0F | 0x20..=0x2F | 0x80..=0x83 | 0xA0..=0xA3 | 0xC0)
 }
 
+#[tactic(auto, unfolding(crate::specs::Steps::accepted))]
 fn accept(fctr: u8, len: u16) -> Heard
     ensures { result ≡ accepted fctr len }
 {
@@ -108,6 +111,7 @@ fn accept(fctr: u8, len: u16) -> Heard
 }
 
 // Steps 2 to 4, of the frame's FCTR, its LEN and its size.
+#[tactic(auto, unfolding(crate::specs::Steps::judged))]
 fn judge(fctr: u8, len: u16, size: usize) -> Heard
     requires { 5 ≤ size }
     ensures { result ≡ judged fctr len size }

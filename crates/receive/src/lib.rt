@@ -1,5 +1,5 @@
 // take: what a received frame does, R4.
-#![tactic(auto, unfolding(crate::specs::Take::data_taken, crate::specs::Take::obeyed, crate::specs::Take::frame_taken))]
+#![tactic(auto)]
 
 ghost use Rattle.std.specs.Prelude.{◌≡◌, true, false, ◌+◌, ◌≤◌, ◌<◌, length};
 ghost use Rattle.base.specs.Answer.{done};
@@ -108,6 +108,7 @@ fn pass_data(
     send::conclude(sent, Err(Refusal::Unexpected), 0)
 }
 
+#[tactic(auto, unfolding(crate::specs::Take::data_taken))]
 fn take_data(
     l: Link,
     slots: &[u8],
@@ -151,6 +152,7 @@ fn obey_nak(l: Link, slots: &[u8], frame: &mut [u8], ms: u32, number: u8) -> Out
     state::answer_only(l, Ok(()))
 }
 
+#[tactic(auto, unfolding(crate::specs::Take::obeyed))]
 fn obey(l: Link, slots: &[u8], frame: &mut [u8], ms: u32, h: Heard) -> Outcome
     requires { (gate_of l (length slots.now) (length frame.old) ≡ done) × Usable l (length frame.old) × (acknowledged_in h ≤ 3) }
     ensures { after result slots.now frame.new ≡ obeyed l slots.now frame.old ms h }
@@ -174,6 +176,7 @@ fn obey(l: Link, slots: &[u8], frame: &mut [u8], ms: u32, h: Heard) -> Outcome
 }
 
 // R1.3: obeys a received frame, and sends at most one.
+#[tactic(auto, unfolding(crate::specs::Take::frame_taken))]
 pub fn take(l: Link, slots: &[u8], frame: &mut [u8], ms: u32, received: &[u8]) -> Outcome
     ensures { after result slots.now frame.new ≡ frame_taken l slots.now frame.old ms received.now }
 {

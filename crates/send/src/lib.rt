@@ -1,5 +1,5 @@
 // What an end sends: submit, and the one maker of a repeat, of a control ACK and of a control NAK.
-#![tactic(auto, unfolding(crate::specs::Submit::submit_gate, crate::specs::Submit::submitted))]
+#![tactic(auto)]
 
 ghost use Rattle.std.specs.Prelude.{◌≡◌, ◌+◌, ◌≤◌, ◌<◌, length};
 ghost use Rattle.base.specs.Answer.{answer_of};
@@ -158,6 +158,7 @@ pub fn send_nak(l: Link, frame: &mut [u8]) -> Sent
 
 // ---- submit
 
+#[tactic(auto, unfolding(crate::specs::Submit::submit_gate))]
 fn submit_gate(l: Link, slots: usize, frame: usize, packet: usize) -> Result<(), Refusal>
     ensures { answer_of result ≡ submit_gate l slots frame packet }
 {
@@ -224,6 +225,7 @@ fn accept(l: Link, slots: &mut [u8], frame: &mut [u8], ms: u32, packet: &[u8]) -
 }
 
 // Takes a packet, if nothing stands against it, and sends its frame.
+#[tactic(auto, unfolding(crate::specs::Submit::submitted))]
 pub fn submit(l: Link, slots: &mut [u8], frame: &mut [u8], ms: u32, packet: &[u8]) -> Outcome
     ensures { after result slots.new frame.new ≡ submitted l slots.old frame.old ms packet.now }
 {

@@ -1,6 +1,6 @@
 // What an end keeps (R2, R5): its settings and its state, when they are well formed, the gate 1, 2, 3 (R9.1), fresh, timers (R6); start and
 // resynchronise.
-#![tactic(auto, unfolding(crate::specs::Gate::entry_of, crate::specs::Gate::gate_of, crate::specs::State::fresh_of, crate::specs::Bounds::in_range, crate::specs::State::numbers_ok, crate::specs::State::well_formed, crate::specs::Timer::time_left, crate::specs::Calls::started, crate::specs::Calls::resynchronised))]
+#![tactic(auto)]
 
 ghost use Rattle.std.specs.Prelude.{◌≡◌, ◌<◌, ◌≤◌, length};
 ghost use Rattle.state.specs.Bounds.{limit_of, in_range, slots_need};
@@ -92,6 +92,7 @@ pub fn limit(s: Settings) -> usize
 
 // ---- well formed
 
+#[tactic(auto, unfolding(crate::specs::Bounds::in_range))]
 fn in_range(s: Settings) -> bool
     ensures { result ≡ in_range s }
 {
@@ -112,6 +113,7 @@ fn length_ok(l: Link, number: u8) -> bool
     (1 <= length) & (length <= limit(l.settings))
 }
 
+#[tactic(auto, unfolding(crate::specs::State::numbers_ok))]
 fn numbers_ok(l: Link) -> bool
     requires { (1 ≤ l.settings.window) × (l.settings.window ≤ 2) }
     ensures { result ≡ numbers_ok l }
@@ -128,6 +130,7 @@ fn numbers_ok(l: Link) -> bool
 }
 
 // The settings are tested first: nothing of the rest is looked up by a window out of range.
+#[tactic(auto, unfolding(crate::specs::State::well_formed))]
 fn well_formed(l: Link) -> bool
     ensures { result ≡ well_formed l }
 {
@@ -156,6 +159,7 @@ fn slots_need(s: Settings) -> usize
     (s.window as usize) * limit(s)
 }
 
+#[tactic(auto, unfolding(crate::specs::Gate::entry_of))]
 fn entry(l: Link, slots: usize, frame: usize) -> Result<(), Refusal>
     ensures { answer_of result ≡ entry_of l slots frame }
 {
@@ -169,6 +173,7 @@ fn entry(l: Link, slots: usize, frame: usize) -> Result<(), Refusal>
 }
 
 // R9.1: what all calls refuse first, but for start and resynchronise: 1, 2 or 3.
+#[tactic(auto, unfolding(crate::specs::Gate::gate_of))]
 pub fn gate(l: Link, slots: usize, frame: usize) -> Result<(), Refusal>
     ensures { answer_of result ≡ gate_of l slots frame }
 {
@@ -182,6 +187,7 @@ pub fn gate(l: Link, slots: usize, frame: usize) -> Result<(), Refusal>
 // ---- fresh
 
 // R5.2: a fresh end of these settings.
+#[tactic(auto, unfolding(crate::specs::State::fresh_of))]
 pub fn fresh(s: Settings) -> Link
     ensures { result ≡ fresh_of s }
 {
@@ -274,6 +280,7 @@ fn acknowledge_left(l: Link, ms: u32) -> u16
 }
 
 // R6.6: 0 where a timer is due, NO_TIMER where none runs.
+#[tactic(auto, unfolding(crate::specs::Timer::time_left))]
 pub fn time_left(l: Link, ms: u32) -> u16
     ensures { result ≡ time_left l ms }
 {
@@ -288,6 +295,7 @@ pub fn time_left(l: Link, ms: u32) -> u16
 // ---- start and resynchronise
 
 // The state of zeros (R8.1).
+#[tactic(auto, unfolding(crate::specs::State::fresh_of))]
 pub fn zero_state() -> Link
     ensures { result ≡ zeros }
 {
@@ -295,6 +303,7 @@ pub fn zero_state() -> Link
 }
 
 // R1.3: an end to begin with, fresh, or the state of zeros where it is refused.
+#[tactic(auto, unfolding(crate::specs::Calls::started))]
 pub fn start(s: Settings, slots: &[u8]) -> Outcome
     ensures { result ≡ started s (length slots.now) }
 {
@@ -316,6 +325,7 @@ fn send_reset(l: Link, slots: &[u8], frame: &mut [u8]) -> Outcome
 }
 
 // R5.9: the reset frame goes out and the end is fresh, its link lost before or not.
+#[tactic(auto, unfolding(crate::specs::Calls::resynchronised))]
 pub fn resynchronise(l: Link, slots: &[u8], frame: &mut [u8], _ms: u32) -> Outcome
     ensures { after result slots.now frame.new ≡ resynchronised l slots.now frame.old }
 {
