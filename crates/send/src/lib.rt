@@ -7,13 +7,15 @@ ghost use Rattle.base.specs.Buffer.{put};
 ghost use Rattle.state.specs.Bounds.{limit_of};
 ghost use Rattle.state.specs.Gate.{after};
 ghost use Rattle.frame.specs.Bytes.{Written};
-ghost use Rattle.state.specs.State.{length_of, repeated_of};
-ghost use Rattle.send.specs.Repeat.{part_of, data_sent, again, may_repeat, Ready};
+ghost use Rattle.send.specs.Repeat.{part_of, may_repeat, Ready};
 ghost use Rattle.send.specs.Makers.{sending, repeat_frame, sends_repeat, ack_stopped, sends_ack, marked, sends_nak};
-ghost use Rattle.send.specs.Submit.{submit_gate, added, sent_first, first_frame, packet_accepted, Acceptable, submitted};
+ghost use Rattle.send.specs.Submit.{submit_gate, sent_first, first_frame, packet_accepted, Acceptable, submitted};
+
+mod place;
 
 use base::answer::Refusal;
 use base::{answer, buffer};
+use place::Place;
 use state::{Link, Outcome};
 
 // A state, and the length of the frame that was sent with it, 0 for none.
@@ -36,74 +38,28 @@ pub fn conclude(s: Sent, outcome: Result<(), Refusal>, delivered: u16) -> Outcom
     }
 }
 
-// ---- a waiting packet
-
-fn part_of(l: Link, number: u8) -> usize
-    requires { (1 ≤ l.settings.window) × (l.settings.window ≤ 2) }
-    ensures { result ≡ part_of l number }
-{
-    let slot = state::slot_of(l, number);
-    slot * state::limit(l.settings)
-}
-
-fn length_of(l: Link, number: u8) -> usize
-    requires { (1 ≤ l.settings.window) × (l.settings.window ≤ 2) }
-    ensures { result ≡ length_of l number }
-{
-    let slot = state::slot_of(l, number);
-    l.lengths[slot] as usize
-}
-
-// R12.5: indexed by the slot.
-fn repeated_of(l: Link, number: u8) -> u8
-    requires { (1 ≤ l.settings.window) × (l.settings.window ≤ 2) }
-    ensures { result ≡ repeated_of l number }
-{
-    let slot = state::slot_of(l, number);
-    l.repeated[slot]
-}
+// ---- a repeat
 
 // Whether a packet may be sent once more: its count is below TRANS_REPEAT.
 pub fn may_repeat(l: Link, number: u8) -> bool
     requires { (1 ≤ l.settings.window) × (l.settings.window ≤ 2) }
     ensures { result ≡ may_repeat l number }
 {
-    repeated_of(l, number) < l.settings.repeats
-}
-
-// ---- a repeat
-
-fn data_sent(l: Link, number: u8, ms: u32, count: u8) -> Link
-    requires { (1 ≤ l.settings.window) × (l.settings.window ≤ 2) }
-    ensures { result ≡ data_sent l number ms count }
-{
-    let slot = state::slot_of(l, number);
-    let mut k = l;
-    k.starts[slot] = ms;
-    k.repeated[slot] = count;
-    k.acking = false;
-    k
-}
-
-fn count_repeat(l: Link, number: u8, ms: u32) -> Link
-    requires { ((1 ≤ l.settings.window) × (l.settings.window ≤ 2)) × (repeated_of l number < 255) }
-    ensures { result ≡ again l number ms }
-{
-    data_sent(l, number, ms, repeated_of(l, number) + 1)
+    Place { link: l, number }.repeated_of() < l.settings.repeats
 }
 
 // The packet is read from its slot at each repeat: no frame is kept.
-fn write_again(l: Link, slots: &[u8], frame: &mut [u8], number: u8) -> u16
-    requires { Ready l number (length slots.now) (length frame.old) }
-    ensures { Written (repeat_frame l slots.now number) frame.old frame.new result }
+fn write_again(place: Place, slots: &[u8], frame: &mut [u8]) -> u16
+    requires { Ready place.link place.number (length slots.now) (length frame.old) }
+    ensures { Written (repeat_frame place.link slots.now place.number) frame.old frame.new result }
 {
-    let part = part_of(l, number);
-    let end = part + length_of(l, number);
-    let acknowledged = state::last_correct(l);
+    let part = place.part_of();
+    let end = part + place.length_of();
+    let acknowledged = state::last_correct(place.link);
     frame::write_data(
-        l.settings.format,
+        place.link.settings.format,
         frame,
-        number,
+        place.number,
         acknowledged,
         &slots[part..end],
     )
@@ -114,8 +70,9 @@ pub fn repeat(l: Link, slots: &[u8], frame: &mut [u8], ms: u32, number: u8) -> S
     requires { Ready l number (length slots.now) (length frame.old) }
     ensures { sending result frame.new ≡ sends_repeat l slots.now frame.old ms number }
 {
-    let sent = write_again(l, slots, frame, number);
-    let state = count_repeat(l, number, ms);
+    let place = Place { link: l, number };
+    let sent = write_again(place, slots, frame);
+    let state = place.sent_again(ms);
     Sent { state, sent }
 }
 
@@ -172,25 +129,13 @@ fn submit_gate(l: Link, slots: usize, frame: usize, packet: usize) -> Result<(),
     Ok(())
 }
 
-fn add(l: Link, packet: u16) -> Link
-    requires { (1 ≤ l.settings.window) × (l.settings.window ≤ 2) × (l.next ≤ 3) × (l.waiting < 2) }
-    ensures { result ≡ added l packet }
-{
-    let slot = state::slot_of(l, l.next);
-    let mut k = l;
-    k.lengths[slot] = packet;
-    k.next = (l.next + 1) % 4;
-    k.waiting = l.waiting + 1;
-    k
-}
-
 // R12.2: the part that is lent on to the copier is m bytes, from where the slot begins.
-fn store(l: Link, slots: &mut [u8], packet: &[u8])
-    requires { ((1 ≤ l.settings.window) × (l.settings.window ≤ 2)) × ((length packet.now ≤ limit_of l.settings) × (part_of l l.next + limit_of l.settings ≤ length slots.old)) }
-    ensures { slots.new ≡ put slots.old (part_of l l.next) packet.now }
+fn store(place: Place, slots: &mut [u8], packet: &[u8])
+    requires { (length packet.now ≤ limit_of place.link.settings) × (part_of place.link place.number + limit_of place.link.settings ≤ length slots.old) }
+    ensures { slots.new ≡ put slots.old (part_of place.link place.number) packet.now }
 {
-    let at = part_of(l, l.next);
-    let end = at + state::limit(l.settings);
+    let at = place.part_of();
+    let end = at + state::limit(place.link.settings);
     buffer::copy_at(&mut slots[at..end], 0, packet);
 }
 
@@ -207,20 +152,30 @@ fn write_first(l: Link, frame: &mut [u8], packet: &[u8]) -> u16
     )
 }
 
-fn send_first(l: Link, ms: u32, packet: u16) -> Link
-    requires { ((1 ≤ l.settings.window) × (l.settings.window ≤ 2)) × ((l.next ≤ 3) × (l.waiting < 2)) }
-    ensures { result ≡ sent_first l ms packet }
+// One more packet waits, of so many bytes.
+fn send_first(place: Place, ms: u32, packet: u16) -> Link
+    requires { (place.number ≡ place.link.next) × (place.link.next ≤ 3) × (place.link.waiting < 2) }
+    ensures { result ≡ sent_first place.link ms packet }
 {
-    add(data_sent(l, l.next, ms, 0), packet)
+    let slot = place.slot();
+    let mut l = place.sent(ms, 0);
+    l.lengths[slot] = packet;
+    l.next = (l.next + 1) % 4;
+    l.waiting += 1;
+    l
 }
 
 fn accept(l: Link, slots: &mut [u8], frame: &mut [u8], ms: u32, packet: &[u8]) -> Outcome
     requires { Acceptable l (length slots.old) (length frame.old) (length packet.now) }
     ensures { after result slots.new frame.new ≡ packet_accepted l slots.old frame.old ms packet.now }
 {
-    store(l, slots, packet);
+    let place = Place {
+        link: l,
+        number: l.next,
+    };
+    store(place, slots, packet);
     let sent = write_first(l, frame, packet);
-    let state = send_first(l, ms, packet.len() as u16);
+    let state = send_first(place, ms, packet.len() as u16);
     conclude(Sent { state, sent }, Ok(()), 0)
 }
 
