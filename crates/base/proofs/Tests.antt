@@ -1,5 +1,5 @@
 -- What a test that came out true or false says.
-use Rattle.std.proofs.Common.{◌≡◌, ℕ, ◌<◌, ◌≤◌, Bool, true, false, cond, ◌&&◌, ◌||◌, eqb, leb, sym, refl, ◌∙◌, arith, eq-eqb, ne_eqb, eqb-true, le-leb, leb-false, leb-true}
+use Rattle.std.proofs.Common.{◌≡◌, ℕ, ◌<◌, ◌≤◌, Bool, true, false, cond, ◌&&◌, ◌||◌, eqb, leb, sym, refl, ◌∙◌, arith, eq-eqb, eqb-true, le-leb, leb-false, leb-true}
 use borrow.Author.Tests.{lt-leb}
 use Rattle.base.specs.Range.{within}
 use Rattle.base.specs.Answer.{done, first_refusal}
@@ -89,14 +89,6 @@ first_refusal_four a b c d e =
     let inner : first_refusal b (first_refusal c d) ≡ done = first_refusal_right a (first_refusal b (first_refusal c d)) e in
     let last : first_refusal c d ≡ done = first_refusal_right b (first_refusal c d) inner in
     (first_refusal_left a (first_refusal b (first_refusal c d)) e, first_refusal_left b (first_refusal c d) inner, first_refusal_left c d last, first_refusal_right c d last)
-
--- the first answer refuses
-pub first_refusal_refused : (a b : ℕ) → (a ≡ done → ⊥) → first_refusal a b ≡ a
-first_refusal_refused a b n = cond_false (eqb a done) b a (ne_eqb a done n)
-
--- it does not
-pub first_refusal_done : (a b : ℕ) → a ≡ done → first_refusal a b ≡ b
-first_refusal_done a b e = cond_true (eqb a done) b a (eq-eqb a done e)
 
 -- a bound of both is one of the first
 pub first_refusal_below : (n a b : ℕ) → a ≤ n → b ≤ n → first_refusal a b ≤ n

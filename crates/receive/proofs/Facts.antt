@@ -15,7 +15,7 @@ use Rattle.send.specs.Repeat.{may_repeat, Ready}
 use Rattle.send.specs.Makers.{silent, concluded, sends_ack}
 use Rattle.send.proofs.Facts.{waiting_ready}
 use Rattle.receive.specs.Steps.{freed, repeatable, after_step6, after_delivery}
-use Rattle.receive.specs.Take.{repeated_or, data_delivered, data_taken, obeyed, frame_taken}
+use Rattle.receive.specs.Take.{data_taken, obeyed, frame_taken}
 
 -- take behind an open gate
 pub frame_taken_open : (l : Link) (slots frame : List ℕ) (ms : ℕ) (received : List ℕ) → gate_of l (length slots) (length frame) ≡ done
@@ -57,13 +57,6 @@ step6_expected l sixth true number six h = rw six h
 step6_expected l sixth false number six h = rw six h
 
 -- ---- step 7
-
-pub delivered_by_lem : (sixth seventh : Link) (slots frame : List ℕ) (ms acknowledged : ℕ) (repeat : Bool) (len : ℕ) (r : After Outcome)
-    → seventh ≡ after_delivery sixth ms
-    → r ≡ concluded (repeated_or repeat seventh slots frame ms acknowledged (silent seventh frame)) done len slots
-    → r ≡ data_delivered sixth slots frame ms acknowledged repeat len
-delivered_by_lem sixth seventh slots frame ms acknowledged repeat len r e q =
-    subst (λ (k : Link). r ≡ concluded (repeated_or repeat k slots frame ms acknowledged (silent k frame)) done len slots) e q
 
 -- data that carries an ACK: the expected number is delivered, and no other
 pub data_taken_lem : (P : After Outcome → Type 0) (l : Link) (slots frame : List ℕ) (ms number acknowledged len : ℕ)

@@ -22,12 +22,10 @@ fn free(l: Link, number: u8) -> Link
     requires { number ≤ 3 }
     ensures { result ≡ freed l number }
 {
-    let behind = state::behind_number(l, number);
-    let mut k = l;
-    if behind < l.waiting {
-        k.waiting = behind;
+    Link {
+        waiting: l.waiting.min(state::behind_number(l, number)),
+        ..l
     }
-    k
 }
 
 fn is_repeatable(l: Link, number: u8) -> bool
@@ -42,10 +40,7 @@ fn obey_acknowledgement(l: Link, nak: bool, number: u8) -> Link
     requires { number ≤ 3 }
     ensures { result ≡ after_step6 l nak number }
 {
-    if nak {
-        return l;
-    }
-    free(l, number)
+    if nak { l } else { free(l, number) }
 }
 
 // ---- step 7: R4.7
@@ -54,15 +49,13 @@ fn deliver(l: Link, ms: u32) -> Link
     requires { l.expected ≤ 3 }
     ensures { result ≡ after_delivery l ms }
 {
-    let mut k = l;
-    k.expected = (l.expected + 1) % 4;
-    k.nakmark = false;
-    k.acking = true;
-    if l.acking {
-        return k;
+    Link {
+        expected: (l.expected + 1) % 4,
+        nakmark: false,
+        acking: true,
+        ackstart: if l.acking { l.ackstart } else { ms },
+        ..l
     }
-    k.ackstart = ms;
-    k
 }
 
 fn deliver_data(
@@ -158,11 +151,8 @@ fn obey(l: Link, slots: &[u8], frame: &mut [u8], ms: u32, h: Heard) -> Outcome
     ensures { after result slots.now frame.new ≡ obeyed l slots.now frame.old ms h }
 {
     match h {
-        Heard::Size => refuse(l, slots, frame, Heard::Size),
-        Heard::Sum => refuse(l, slots, frame, Heard::Sum),
-        Heard::Code => refuse(l, slots, frame, Heard::Code),
-        Heard::ControlSize => state::answer_only(l, frame::refusal(Heard::ControlSize)),
-        Heard::Length => refuse(l, slots, frame, Heard::Length),
+        Heard::Size | Heard::Sum | Heard::Code | Heard::Length => refuse(l, slots, frame, h),
+        Heard::ControlSize => state::answer_only(l, frame::refusal(h)),
         Heard::Reset => state::become_fresh(l, 0),
         Heard::Ack(number) => state::answer_only(free(l, number), Ok(())),
         Heard::Nak(number) => obey_nak(l, slots, frame, ms, number),

@@ -1,19 +1,18 @@
 -- What lets a packet be taken and a frame be made.
-use Rattle.std.proofs.Common.{◌≡◌, ap, subst, Bool, true, cond, List, ℕ, ◌+◌, ◌-◌, ◌<◌, ◌≤◌, arith, ltb-true, ltb, take, drop}
+use Rattle.std.proofs.Common.{◌≡◌, ap, Bool, true, cond, List, ℕ, ◌+◌, ◌<◌, ◌≤◌, arith, ltb-true, ltb}
 use Rattle.base.specs.Range.{within}
 use Rattle.base.specs.Answer.{done, packet_size, window_full}
 use Rattle.base.proofs.Tests.{within_low, within_high, passed, first_refusal_left, first_refusal_right}
-use Rattle.frame.specs.Bytes.{data_frame, Written}
 use Rattle.state.specs.declared.Link.{Link}
 use Rattle.state.specs.Bounds.{limit_of}
 use Rattle.state.specs.declared.Outcome.{Outcome}
-use Rattle.state.specs.State.{last_correct, sent_before, slot_of, length_of, repeated_of}
+use Rattle.state.specs.State.{sent_before, slot_of, length_of, repeated_of}
 use Rattle.state.specs.Gate.{after, gate_of}
 use Rattle.state.specs.Formed.{InRange, Formed, Open}
 use Rattle.state.proofs.Facts.{gate_of_facts, slot_of_lt, part_inside}
 use Rattle.send.specs.Repeat.{part_of, may_repeat, Ready}
 use Rattle.send.specs.declared.Sent.{Sent}
-use Rattle.send.specs.Makers.{Sending, sending, repeat_frame, concluded}
+use Rattle.send.specs.Makers.{Sending, sending, concluded}
 use Rattle.send.specs.Submit.{packet_gate, submit_gate, Acceptable}
 
 -- what a gate of 0 says, as plain inequalities
@@ -56,14 +55,6 @@ submit_gate_fits l slots frame packet e =
       (a.most, part_fits l l.next (limit_of l.settings) slots frame a.gate (omega arith)),
       (omega (arith, a.most, a.gate.entered.frame_room, s.d_lo), omega (arith, a.most, s.d_hi)),
     )
-
--- the frame of a packet that is read from its slot
-pub again_written : (l : Link) (slots before after : List ℕ) (number part len last sent : ℕ) → part ≡ part_of l number → len ≡ length_of l number
-    → last ≡ last_correct l → Written (data_frame l.settings.format number last (take (part + len - part) (drop part slots))) before after sent
-    → Written (repeat_frame l slots number) before after sent
-again_written l slots before after number part len last sent p n k w =
-    let same : part + len - part ≡ len = omega arith in
-    subst (λ x. Written x before after sent) (rw (same, p, n, k)) w
 
 -- a packet that waits, and whose count is below TRANS_REPEAT, can be repeated
 pub waiting_ready : (l : Link) (n slots frame : ℕ) → Open l slots frame → n < l.waiting → may_repeat l (sent_before l n) ≡ true → Ready l (sent_before l n) slots frame
