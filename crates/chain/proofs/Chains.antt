@@ -1,4 +1,4 @@
--- What the gates of joining say where they are open; the calls alone.
+-- What the gate of a chain says; the calls alone.
 use Rattle.std.proofs.Common.{◌≡◌, sym, ap, ◌∙◌, Bool, cond, ◌&&◌, List, ℕ, ◌≤◌, arith, ltb-false, eqb-true, ne_eqb, ◌≢◌, false, length, get_or, ltb, leb, eqb}
 use Rattle.base.specs.Answer.{done, chain_fault, fault_told, secured_packet, too_long}
 use borrow.Author.Tests.{lt-leb}
@@ -21,10 +21,10 @@ chain_gate_fits m j pctr size e =
     let four : ℕ = cond long too_long done in
     ltb-false longest (total_of j (chain_of pctr) size) (spared long too_long (omega arith) (first_refusal_four one two three four e).3)
 
--- bits that no packet may have
-pub no_chain : (m : ℕ) (j : Joining) (pctr size : ℕ) → ((chain : Chain) → bits_of chain ≢ chain_of pctr) → chain_gate m j pctr size ≡ chain_fault
+-- R7.5: bits that are no CHAIN get 10, whatever else holds
+pub other_bits_refused : (m : ℕ) (j : Joining) (pctr size : ℕ) → ((chain : Chain) → bits_of chain ≢ chain_of pctr) → chain_gate m j pctr size ≡ chain_fault
 unfolding chain_gate faulty
-no_chain m j pctr size none =
+other_bits_refused m j pctr size none =
     let bits : ℕ = chain_of pctr in
     let not_whole : bits ≢ whole = λ e. none Whole (sym e) in
     let not_first : bits ≢ first = λ e. none First (sym e) in

@@ -239,25 +239,19 @@ fn is_faulty(limit: Limit, opened: bool, chain: Chain, size: usize) -> bool
     }
 }
 
-#[tactic(auto, using(crate::proofs::Chains::no_chain), unfolding(crate::specs::Join::chain_gate))]
+#[tactic(auto, using(crate::proofs::Chains::other_bits_refused), unfolding(crate::specs::Join::chain_gate))]
 fn chain_gate(limit: Limit, j: Joining, packet: &Packet) -> Result<Chain, Refusal>
     ensures order { answer_of result ≡ chain_gate limit.m j (get_or packet.now 0 0) (length packet.now) }
     ensures same { IfOk result (λ chain. bits_of chain ≡ chain_of (get_or packet.now 0 0)) }
 {
-    let chain = packet.chain()?;
-    if chain == Chain::Fault && packet.size() == 1 {
-        return Err(Refusal::FaultTold);
+    let size = packet.size();
+    match packet.chain()? {
+        Chain::Fault if size == 1 => Err(Refusal::FaultTold),
+        chain if is_faulty(limit, j.opened, chain, size) => Err(Refusal::ChainFault),
+        chain if packet.is_secured() && chain.begins() => Err(Refusal::SecuredPacket),
+        chain if LONGEST < j.place_of(chain) + packet.part().len() => Err(Refusal::TooLong),
+        chain => Ok(chain),
     }
-    if is_faulty(limit, j.opened, chain, packet.size()) {
-        return Err(Refusal::ChainFault);
-    }
-    if packet.is_secured() && chain.begins() {
-        return Err(Refusal::SecuredPacket);
-    }
-    if LONGEST < j.place_of(chain) + packet.part().len() {
-        return Err(Refusal::TooLong);
-    }
-    Ok(chain)
 }
 
 fn tell(j: Joining, packet: &Packet, chain: Chain) -> Joined

@@ -7,7 +7,7 @@ ghost use Rattle.chain.specs.Cut.{chain_at};
 use base::answer::Refusal;
 
 // CHAIN: R7.2, R7.3. Fault is of the packet that tells a fault (R7.6).
-#[derive(Clone, Copy, PartialEq, Eq)]
+#[derive(Clone, Copy)]
 pub(crate) enum Chain {
     Whole = 0,
     First = 1,
