@@ -193,11 +193,8 @@ fn packet_gate<'a>(limit: Limit, bytes: &'a [u8]) -> Result<Packet<'a>, Refusal>
     ensures order { answer_of result ≡ packet_gate limit.m bytes.now }
     ensures same { IfOk result (λ packet. packet ≡ bytes.now) }
 {
-    let packet = Packet::new(bytes).ok_or(Refusal::PacketSize)?;
-    if limit.bytes() < packet.size() {
-        return Err(Refusal::PacketSize);
-    }
-    if packet.channel() != Channel::ONLY {
+    let packet = Packet::new(limit, bytes)?;
+    if !packet.is_of(Channel::ONLY) {
         return Err(Refusal::OtherChannel);
     }
     Ok(packet)

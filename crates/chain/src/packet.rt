@@ -1,7 +1,10 @@
-// A packet that is not empty, taken apart: R7.1.
-ghost use Rattle.std.specs.Prelude.{◌≡◌, ◌≤◌, [], length, get_or, drop, MatchOption};
+// A packet of 1 to m bytes, taken apart: R7.1.
+ghost use Rattle.std.specs.Prelude.{◌≡◌, true, false, ◌≤◌, eqb, length, get_or, drop, IfOk, MatchResult};
+ghost use Rattle.base.specs.declared.answer.Refusal.TheVariants.{PacketSize};
+ghost use Rattle.base.specs.Range.{within};
 ghost use Rattle.chain.specs.Pctr.{channel_of, secured_of, chain_of, HasBits};
 
+use crate::limit::Limit;
 use crate::pctr::{Chain, Channel};
 use base::answer::Refusal;
 use std::marker::Model;
@@ -22,12 +25,14 @@ impl<'a> Model for Packet<'a> {
 }
 
 impl<'a> Packet<'a> {
-    pub(crate) fn new(bytes: &'a [u8]) -> Option<Packet<'a>>
-        ensures { MatchOption result (bytes.now ≡ []) (λ packet. packet ≡ bytes.now) }
+    // R8.4
+    pub(crate) fn new(limit: Limit, bytes: &'a [u8]) -> Result<Packet<'a>, Refusal>
+        ensures in_size { MatchResult result (λ packet. within 1 (length bytes.now) limit.m ≡ true) (λ refusal. (refusal ≡ PacketSize) × (within 1 (length bytes.now) limit.m ≡ false)) }
+        ensures same { IfOk result (λ packet. packet ≡ bytes.now) }
     {
         match bytes {
-            [pctr, part @ ..] => Some(Packet { pctr: *pctr, part }),
-            [] => None,
+            [pctr, part @ ..] if bytes.len() <= limit.bytes() => Ok(Packet { pctr: *pctr, part }),
+            _ => Err(Refusal::PacketSize),
         }
     }
 
@@ -37,10 +42,10 @@ impl<'a> Packet<'a> {
         self.part.len() + 1
     }
 
-    pub(crate) fn channel(&self) -> Channel
-        ensures { result.number ≡ channel_of (get_or self.now 0 0) }
+    pub(crate) fn is_of(&self, channel: Channel) -> bool
+        ensures { result ≡ eqb (channel_of (get_or self.now 0 0)) channel.number }
     {
-        Channel::of(self.pctr)
+        self.pctr / 16 == channel.number
     }
 
     pub(crate) fn is_secured(&self) -> bool

@@ -1,6 +1,6 @@
 // What a packet's first byte, PCTR, says: R7.1.
 ghost use Rattle.std.specs.Prelude.{◌≡◌, ◌≤◌, ◌<◌};
-ghost use Rattle.chain.specs.Pctr.{channel_of, pctr_of, bits_of, HasBits};
+ghost use Rattle.chain.specs.Pctr.{pctr_of, bits_of, HasBits};
 ghost use Rattle.chain.specs.Join.{begins, finishes};
 ghost use Rattle.chain.specs.Cut.{chain_at};
 
@@ -65,9 +65,9 @@ impl TryFrom<u8> for Chain {
 }
 
 // R1.1
-#[derive(Clone, Copy, PartialEq, Eq)]
+#[derive(Clone, Copy)]
 pub(crate) struct Channel {
-    number: u8,
+    pub(crate) number: u8,
     ghost in_range: { number ≤ 15 },
 }
 
@@ -79,11 +79,5 @@ impl Channel {
         ensures { result ≡ pctr_of self.number (bits_of chain) }
     {
         self.number * 16 + chain as u8
-    }
-
-    pub(crate) fn of(pctr: u8) -> Channel
-        ensures { result.number ≡ channel_of pctr }
-    {
-        Channel { number: pctr / 16 }
     }
 }
