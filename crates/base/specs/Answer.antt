@@ -1,6 +1,6 @@
 -- The numbers that the calls return: R8.0 to R8.18, which also say what each leaves; their order R9.1; later ones R9.4. Those from 19 on are
 -- named for calls to come, and no call returns them yet (DECISIONS D89).
-use Rattle.std.specs.Prelude.{ℕ, cond, ◌==◌, Result, Ok, Err}
+use Rattle.std.specs.Prelude.{◌≡◌, ℕ, ◌<◌, ◌⊎◌, cond, ◌==◌, Result, Ok, Err, MatchResult}
 use Rattle.base.specs.declared.answer.Refusal.{Refusal}
 use Rattle.base.specs.declared.answer.Refusal.TheVariants.{OutOfRange, ShortBuffer, LinkLost, PacketSize, WindowFull, FrameSum, UnusedCode, ControlSize, Unexpected, ChainFault, OtherChannel, SecuredPacket, MessageSize, TooLong, FaultTold, NoSuchPacket, FrameSize, FrameLength, UnknownRegister, RegisterAccess, RegisterSize, RegisterValue, OutboxFull, OutboxRoom, NumberHeld, NumberNotHeld, MessageBegun, ChannelCount, RestartCount, ImageLength, ImageVersion, ImageField, BlockLimit, BlockLength, BlockSum, BlockHead, BlockNumber, BlockChain, FalseLength}
 
@@ -225,6 +225,10 @@ number_of BlockHead = block_head
 number_of BlockNumber = block_number
 number_of BlockChain = block_chain
 number_of FalseLength = false_length
+
+-- R8, the other way: of no number that a refusal has, none is given
+abbrev pub Numbered : {E : Type 0} → ℕ → Result Refusal E → Type 0
+Numbered answer r = MatchResult r (λ refusal. number_of refusal ≡ answer) (λ e. (answer ≡ done) ⊎ (false_length < answer))
 
 -- R9.1: what a gate says, as an answer: 0 where it lets the call in
 abbrev pub answer_of : {A : Type 0} → Result A Refusal → ℕ

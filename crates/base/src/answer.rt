@@ -1,7 +1,7 @@
 // The number that a call returns where it is carried out, and why it is refused where it is not (R8). specs/Answer.antt has the same names
 // for the contracts.
 ghost use Rattle.std.specs.Prelude.{◌≡◌};
-ghost use Rattle.base.specs.Answer.{number_of, answer_of};
+ghost use Rattle.base.specs.Answer.{number_of, answer_of, Numbered};
 
 pub const DONE: u8 = 0;
 
@@ -61,6 +61,62 @@ impl Refusal {
         ensures { result ≡ number_of self }
     {
         self as u8
+    }
+}
+
+// Of an answer that is no refusal's.
+#[derive(Clone, Copy, PartialEq, Eq)]
+pub struct NoRefusal;
+
+// Which refusal a call's answer is.
+impl TryFrom<u8> for Refusal {
+    type Error = NoRefusal;
+
+    ghost try_from_gives = { Numbered };
+
+    fn try_from(answer: u8) -> Result<Refusal, NoRefusal> {
+        match answer {
+            1 => Ok(Refusal::OutOfRange),
+            2 => Ok(Refusal::ShortBuffer),
+            3 => Ok(Refusal::LinkLost),
+            4 => Ok(Refusal::PacketSize),
+            5 => Ok(Refusal::WindowFull),
+            6 => Ok(Refusal::FrameSum),
+            7 => Ok(Refusal::UnusedCode),
+            8 => Ok(Refusal::ControlSize),
+            9 => Ok(Refusal::Unexpected),
+            10 => Ok(Refusal::ChainFault),
+            11 => Ok(Refusal::OtherChannel),
+            12 => Ok(Refusal::SecuredPacket),
+            13 => Ok(Refusal::MessageSize),
+            14 => Ok(Refusal::TooLong),
+            15 => Ok(Refusal::FaultTold),
+            16 => Ok(Refusal::NoSuchPacket),
+            17 => Ok(Refusal::FrameSize),
+            18 => Ok(Refusal::FrameLength),
+            19 => Ok(Refusal::UnknownRegister),
+            20 => Ok(Refusal::RegisterAccess),
+            21 => Ok(Refusal::RegisterSize),
+            22 => Ok(Refusal::RegisterValue),
+            23 => Ok(Refusal::OutboxFull),
+            24 => Ok(Refusal::OutboxRoom),
+            25 => Ok(Refusal::NumberHeld),
+            26 => Ok(Refusal::NumberNotHeld),
+            27 => Ok(Refusal::MessageBegun),
+            28 => Ok(Refusal::ChannelCount),
+            29 => Ok(Refusal::RestartCount),
+            30 => Ok(Refusal::ImageLength),
+            31 => Ok(Refusal::ImageVersion),
+            32 => Ok(Refusal::ImageField),
+            33 => Ok(Refusal::BlockLimit),
+            34 => Ok(Refusal::BlockLength),
+            35 => Ok(Refusal::BlockSum),
+            36 => Ok(Refusal::BlockHead),
+            37 => Ok(Refusal::BlockNumber),
+            38 => Ok(Refusal::BlockChain),
+            39 => Ok(Refusal::FalseLength),
+            _ => Err(NoRefusal),
+        }
     }
 }
 
