@@ -3,6 +3,7 @@
 ghost use Rattle.std.specs.Prelude.{◌≡◌};
 ghost use Rattle.base.specs.Answer.{number_of, answer_of, Numbered};
 
+// Stays: an outcome's answer is a number (R1.5, R8), so the definitions of the calls say numbers, from `started` to `joined`.
 pub const DONE: u8 = 0;
 
 // A refusal; the call returns its number. Those from 19 on are named before any call returns them (R9.4), so that a call that is added later

@@ -12,6 +12,7 @@ use base::answer::Refusal;
 use base::buffer;
 
 // What the bytes of a frame depend on beside what it says, for the writer as for the hearer: D, and the order of the FCS bytes (R3.8).
+// Stays: the order is a number, since a state that is handed in may hold any (R2.1, `in_range`).
 #[derive(Clone, Copy, Default)]
 pub struct Format {
     pub d: u16,
@@ -24,6 +25,7 @@ pub const LOW_FIRST: u8 = 0;
 pub const HIGH_FIRST: u8 = 1;
 
 // What steps 1 to 4 make of a received frame; each refusal is a case of its own, with a number of its own (R12.7).
+// Stays: refused or not, one type, for `heard` and `obeyed` go by its nine cases.
 #[derive(Clone, Copy)]
 pub enum Heard {
     Size,
@@ -222,6 +224,7 @@ fn write_control(format: Format, frame: &mut [u8], fctr: u8) -> u16
 }
 
 // Writes a control ACK, and gives its length.
+// Stays: this and write_nak are calls of write_control, one number apart; each has the rule's frame in its contract, which STATEMENTS names.
 pub fn write_ack(format: Format, frame: &mut [u8], acknowledged: u8) -> u16
     requires { (acknowledged ≤ 3) × (5 ≤ length frame.old) }
     ensures { Written (ack_frame format acknowledged) frame.old frame.new result }

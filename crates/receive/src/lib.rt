@@ -16,6 +16,9 @@ use frame::Heard;
 use send::Sent;
 use state::{Link, Outcome};
 
+// Stays: l, slots, frame and ms are parameters here and in clock. A struct of them was tried: what it holds is lent, so each contract reads
+// `call.entry.slots.now` for `slots.now`, and `call.exit.1.now` for `frame.new`.
+
 // ---- step 6: R4.6
 
 fn free(l: Link, number: u8) -> Link

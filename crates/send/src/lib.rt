@@ -18,7 +18,8 @@ use base::{answer, buffer};
 use place::Place;
 use state::{Link, Outcome};
 
-// A state, and the length of the frame that was sent with it, 0 for none.
+// A state, and the length of the frame that was sent with it.
+// Stays: 0 for none, as `sends` and `silent` say it, and R1.5 of a call.
 #[derive(Clone, Copy)]
 pub struct Sent {
     pub state: Link,

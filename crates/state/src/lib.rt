@@ -24,7 +24,8 @@ pub struct Settings {
     pub repeats: u8,
 }
 
-// R5.1, with its arrays in the form of R12.5
+// R5.1
+// Stays: three arrays side by side, as R12.5 has them, and flags; `fresh_of` and `well_formed` speak of each.
 #[derive(Clone, Copy, Default)]
 pub struct Link {
     pub settings: Settings,
@@ -41,6 +42,7 @@ pub struct Link {
 }
 
 // R1.5
+// Stays: lengths that are 0 where nothing is sent or delivered, and the answer's number, as `started`, `submitted` and `frame_taken` say them.
 #[derive(Clone, Copy)]
 pub struct Outcome {
     pub state: Link,
@@ -51,6 +53,9 @@ pub struct Outcome {
 }
 
 // ---- numbers and slots
+//
+// Stays: a window of 1 or 2 is asked for here and below, since the functions that are called from other crates take any Link; a type for it
+// would be made anew in each. Where a crate's own functions ask for it, there is one: Place (send).
 
 // The number of the last data frame that was delivered.
 pub fn last_correct(l: Link) -> u8
@@ -258,6 +263,7 @@ pub fn is_acknowledge_due(l: Link, ms: u32) -> bool
 }
 
 // What time_left gives where no timer runs.
+// Stays: R6.6 and `time_left` tell this number.
 pub const NO_TIMER: u16 = 65535;
 
 fn packet_left(l: Link, n: u8, ms: u32) -> u16
