@@ -1,167 +1,168 @@
 // The commands on one joining of messages: their words, their fields, what they do and what they print.
-// A later input goes last among its command's fields, and the number that are needed stays: absent means 0. A later output goes last
-// in its command's print function.
-use crate::printing::from_flag;
-use crate::session::{CHAINING, Command, ROOM, Room, Session, UNSENT, UNWRITTEN};
-use crate::{printing, session};
+// A later input goes last among its command's fields, and is 0 where it is absent. A later output goes last in its command's print
+// function.
+use crate::lent::{Lent, UNSENT, UNWRITTEN};
+use crate::{ARROW, LINE_FEED, flag};
 use base::buffer::part;
 use chain::{Joined, Joining, Piece};
 use std::io;
 use std::io::Write;
-use text::field::{BYTES, FLAG, Form, U16, U32, Values, flag_at, number_at, u16_at, u32_at};
-use text::{field, least};
+use text::fields::Fields;
+use text::page::Hex;
 
-// ---- words and fields
-
-const WORDS: [u8; 21] = *b"join cut room joining";
-
-// How many they are, and their places in the list.
-pub const COUNT: usize = 4;
-
-const JOIN: usize = 0;
-
-const CUT: usize = 1;
-
-const SET_ROOM: usize = 2;
-
-const SET_JOINING: usize = 3;
+// The longest joining room.
+const ROOM: usize = 8192;
 
 // The longest packet buffer of cut.
 const PACKET: usize = 1024;
 
-// The fields of every command.
-pub const FIELDS: [u64; 9] = [
-    U16, // join LIMIT BYTES
-    BYTES,
-    U16, // cut LIMIT FROM SIZE BYTES
-    U32,
-    PACKET as u64,
-    BYTES,
-    ROOM as u64, // room SIZE
-    FLAG, // joining OPENED LENGTH
-    U16,
-];
+#[derive(Clone, Copy)]
+pub enum Command<'a> {
+    Join {
+        m: u16,
+        packet: &'a [u8],
+    },
+    Cut {
+        m: u16,
+        i: u32,
+        size: usize,
+        message: &'a [u8],
+    },
+    Room(usize),
+    Joining(Joining),
+}
 
-fn form_of(word: usize) -> Form {
+// ---- words and fields
+
+// M PACKET
+fn join<'a>(fields: &mut Fields<'_>, room: &'a mut [u8]) -> Option<Command<'a>> {
+    let m = fields.number()?;
+    let packet = fields.bytes(room)?;
+    Some(Command::Join { m, packet })
+}
+
+// M I BUFFER MESSAGE
+fn cut<'a>(fields: &mut Fields<'_>, room: &'a mut [u8]) -> Option<Command<'a>> {
+    let m = fields.number()?;
+    let i = fields.number()?;
+    let size = fields.number_up_to(PACKET)?;
+    let message = fields.bytes(room)?;
+    Some(Command::Cut {
+        m,
+        i,
+        size,
+        message,
+    })
+}
+
+// OPEN JOINED
+fn joining<'a>(fields: &mut Fields<'_>) -> Option<Command<'a>> {
+    let opened = flag(fields)?;
+    let length = fields.number()?;
+    Some(Command::Joining(Joining { length, opened }))
+}
+
+fn read_command<'a>(
+    word: &[u8],
+    fields: &mut Fields<'_>,
+    room: &'a mut [u8],
+) -> Option<Command<'a>> {
     match word {
-        JOIN => field::fields_from(0, 2, 2),
-        CUT => field::fields_from(2, 6, 4),
-        SET_ROOM => field::fields_from(6, 7, 1),
-        SET_JOINING => field::fields_from(7, 9, 2),
-        _ => session::no_form(),
+        b"join" => join(fields, room),
+        b"cut" => cut(fields, room),
+        b"room" => Some(Command::Room(fields.number_up_to(ROOM)?)),
+        b"joining" => joining(fields),
+        _ => None,
     }
 }
 
-// What the word asks for, if it is one of these.
-pub fn command(text: &[u8]) -> Command {
-    let word = field::place_of(text, &WORDS);
-    Command {
-        form: form_of(word),
-        owner: CHAINING,
-        word,
-        is_call: word <= CUT,
+// What the line asks for, if it is one of these.
+pub fn read<'a>(line: &[u8], room: &'a mut [u8]) -> Option<Command<'a>> {
+    let mut fields = Fields::of(line);
+    let word = fields.word()?;
+    let command = read_command(word, &mut fields, room)?;
+    fields.end()?;
+    Some(command)
+}
+
+impl Command<'_> {
+    // What stands behind its line where it is printed again.
+    pub fn behind(&self) -> &'static [u8] {
+        match self {
+            Command::Join { .. } | Command::Cut { .. } => ARROW,
+            _ => LINE_FEED,
+        }
     }
 }
 
-// ---- room, joining
-
-fn set_room(v: Values, room: &mut Room, s: Session) -> Session {
-    *room = [UNWRITTEN; ROOM];
-    let mut k = s;
-    k.room = number_at(v, 0) as usize;
-    k
-}
-
-fn with_joining(s: Session, joining: Joining) -> Session {
-    let mut k = s;
-    k.joining = joining;
-    k
-}
-
-fn joining_of(v: Values) -> Joining {
-    Joining {
-        length: u16_at(v, 1),
-        opened: flag_at(v, 0),
-    }
-}
-
-// ---- join
+// ---- what a call prints
 
 // Of a worked line the room is not told.
-fn print_join(to: &mut impl Write, j: Joined, room: &[u8], is_worked: bool) -> io::Result<()> {
-    let state = j.state;
-    let numbers = [
-        j.answer as u64,
-        j.length as u64,
-        j.fault as u64,
-        from_flag(state.opened),
-        state.length as u64,
-    ];
-    match is_worked {
-        true => printing::say(to, b"% % % % %\n", &numbers),
-        false => printing::say_bytes(to, b"% % % % %", &numbers, room),
+fn write_joined(to: &mut impl Write, j: Joined, room: &[u8], is_worked: bool) -> io::Result<()> {
+    write!(to, "{} {} {}", j.answer, j.length, j.fault)?;
+    write!(to, " {} {}", u8::from(j.state.opened), j.state.length)?;
+    if is_worked {
+        return writeln!(to);
     }
+    writeln!(to, " {}", Hex(room))
 }
-
-fn join(
-    to: &mut impl Write,
-    v: Values,
-    bytes: &[u8],
-    room: &mut [u8],
-    s: Session,
-) -> io::Result<Session> {
-    let size = least(s.room, room.len());
-    let j = chain::join(u16_at(v, 0), s.joining, bytes, &mut room[0..size]);
-    print_join(to, j, part(room, 0, size), s.is_worked)?;
-    Ok(with_joining(s, j.state))
-}
-
-// ---- cut
 
 // Of a worked line the packet is told, else the whole buffer.
-fn print_cut(
-    to: &mut impl Write,
-    p: Piece,
-    packet: &[u8],
-    size: usize,
-    is_worked: bool,
-) -> io::Result<()> {
-    let numbers = [p.answer as u64, p.length as u64, p.count as u64];
-    let told = match is_worked {
-        true => p.length as usize,
-        false => size,
+fn write_piece(to: &mut impl Write, p: Piece, packet: &[u8], is_worked: bool) -> io::Result<()> {
+    let told = if is_worked {
+        part(packet, 0, usize::from(p.length))
+    } else {
+        packet
     };
-    printing::say_bytes(to, b"% % %", &numbers, part(packet, 0, told))
+    writeln!(to, "{} {} {} {}", p.answer, p.length, p.count, Hex(told))
 }
 
-fn cut(
-    to: &mut impl Write,
-    v: Values,
-    bytes: &[u8],
-    packet: &mut [u8],
-    is_worked: bool,
-) -> io::Result<()> {
-    let size = least(number_at(v, 2) as usize, packet.len());
-    let p = chain::cut(u16_at(v, 0), bytes, u32_at(v, 1), &mut packet[0..size]);
-    print_cut(to, p, packet, size, is_worked)
+// ---- the joining
+
+#[derive(Drop)]
+pub struct Joint {
+    joining: Joining,
+    room: Lent<ROOM>,
 }
 
-// ---- every command
-
-// Does what the command says.
-pub fn act(
-    to: &mut impl Write,
-    word: usize,
-    v: Values,
-    bytes: &[u8],
-    room: &mut Room,
-    s: Session,
-) -> io::Result<Session> {
-    match word {
-        JOIN => return join(to, v, bytes, room, s),
-        CUT => cut(to, v, bytes, &mut [UNSENT; PACKET], s.is_worked)?,
-        SET_ROOM => return Ok(set_room(v, room, s)),
-        _ => return Ok(with_joining(s, joining_of(v))),
+impl Joint {
+    // Before the first line.
+    pub fn new() -> Self {
+        Joint {
+            joining: chain::fresh_joining(),
+            room: Lent::new(UNWRITTEN, 0),
+        }
     }
-    Ok(s)
+
+    fn join(
+        &mut self,
+        to: &mut impl Write,
+        m: u16,
+        packet: &[u8],
+        is_worked: bool,
+    ) -> io::Result<()> {
+        let j = chain::join(m, self.joining, packet, self.room.bytes_mut());
+        self.joining = j.state;
+        write_joined(to, j, self.room.bytes(), is_worked)
+    }
+
+    // Does what the command says.
+    pub fn obey(&mut self, to: &mut impl Write, c: Command<'_>, is_worked: bool) -> io::Result<()> {
+        match c {
+            Command::Join { m, packet } => return self.join(to, m, packet, is_worked),
+            Command::Cut {
+                m,
+                i,
+                size,
+                message,
+            } => {
+                let mut packet = Lent::<PACKET>::new(UNSENT, size);
+                let p = chain::cut(m, message, i, packet.bytes_mut());
+                return write_piece(to, p, packet.bytes(), is_worked);
+            }
+            Command::Room(size) => self.room = Lent::new(UNWRITTEN, size),
+            Command::Joining(joining) => self.joining = joining,
+        }
+        Ok(())
+    }
 }

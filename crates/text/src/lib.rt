@@ -2,10 +2,13 @@
 #![tactic(auto)]
 
 pub mod field;
+pub mod fields;
 pub mod heard;
 pub mod input;
 pub mod lay;
+pub mod line;
 pub mod lines;
+pub mod page;
 pub mod settings;
 
 ghost use Rattle.std.specs.Prelude.{◌≤◌, length};

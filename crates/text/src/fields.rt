@@ -1,0 +1,104 @@
+// The fields of a line: words apart by one space each.
+ghost use Rattle.std.specs.Prelude.{◌≡◌, ◌≤◌, ◌↔◌, length, IsSome, IsNone, IfSome};
+
+use memchr::memchr;
+use std::num::TryFromIntError;
+
+// rest: what is not yet read; none where the line's last word is.
+#[derive(Clone, Copy)]
+pub struct Fields<'a> {
+    rest: Option<&'a [u8]>,
+}
+
+// A number above the largest u64 is read as that one, which is too large for every field.
+fn appended(number: u64, digit: u8) -> u64 {
+    number
+        .saturating_mul(10)
+        .saturating_add(u64::from(digit.saturating_sub(b'0')))
+}
+
+fn number_of(word: &[u8]) -> Option<u64> {
+    if word.is_empty() || !word.iter().all(u8::is_ascii_digit) {
+        return None;
+    }
+    Some(
+        word.iter()
+            .fold(0, |number, digit| appended(number, *digit)),
+    )
+}
+
+impl<'a> Fields<'a> {
+    // The line's first word is the first of them.
+    pub fn of(line: &'a [u8]) -> Fields<'a>
+        ensures { result.rest ≡ Some line.entry }
+    {
+        Fields { rest: Some(line) }
+    }
+
+    pub fn word(&mut self) -> Option<&'a [u8]>
+        ensures { IsSome result ↔ IsSome self.old.rest }
+    {
+        let rest = self.rest?;
+        let Some(end) = memchr(b' ', rest) else {
+            self.rest = None;
+            return Some(rest);
+        };
+        self.rest = Some(&rest[end + 1..]);
+        Some(&rest[..end])
+    }
+
+    pub fn number<T: TryFrom<u64, Error = TryFromIntError>>(&mut self) -> Option<T>
+        ensures { IsSome result → IsSome self.old.rest }
+    {
+        let number = number_of(self.word()?)?;
+        T::try_from(number).ok()
+    }
+
+    pub fn number_up_to(&mut self, largest: usize) -> Option<usize>
+        ensures { IfSome result (λ n. n ≤ largest) }
+    {
+        let number = self.number()?;
+        (number <= largest).then_some(number)
+    }
+
+    // A number that was added to a line later, and is 0 where it is absent.
+    pub fn number_or_0<T: TryFrom<u64, Error = TryFromIntError> + Default>(&mut self) -> Option<T>
+        ensures { IsNone self.old.rest → IsSome result }
+    {
+        if self.rest.is_none() {
+            return Some(T::default());
+        }
+        self.number()
+    }
+
+    // Bytes in hexadecimal digits of either case, or a dash for none; they are laid in `room`, and more than fit there are no field.
+    pub fn bytes<'b>(&mut self, room: &'b mut [u8]) -> Option<&'b [u8]>
+        ensures { IfSome result (λ bytes. length bytes.now ≤ length room.old) }
+    {
+        let word = self.word()?;
+        match word {
+            [] => None,
+            b"-" => Some(&[]),
+            _ => {
+                let bytes = room.get_mut(..word.len() / 2)?;
+                hex::decode_to_slice(word, &mut *bytes).ok()?;
+                Some(bytes)
+            }
+        }
+    }
+
+    // The rest of the line, as it stands.
+    pub fn text(&mut self) -> Option<&'a [u8]>
+        ensures given { result ≡ self.old.rest }
+        ensures ends { self.new.rest ≡ None }
+    {
+        self.rest.take()
+    }
+
+    // Whether there is no field left.
+    pub fn end(&self) -> Option<()>
+        ensures { IsSome result ↔ IsNone self.now.rest }
+    {
+        self.rest.is_none().then_some(())
+    }
+}

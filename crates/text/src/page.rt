@@ -1,0 +1,143 @@
+// Text for output.
+ghost use Rattle.std.specs.Prelude.{◌≡◌, ◌+◌, ◌<◌, ◌≤◌, OnOk, length};
+ghost use Rattle.std.specs.Io.KnownBytes.{Keeps, Appends};
+
+use base::buffer::copy_at;
+use std::fmt::Formatter;
+use std::io::Write;
+use std::{fmt, io};
+
+// Longer than most lines, so that these are written at once.
+const LINE: usize = 8192;
+
+// A writer that is handed a line as soon as its line feed is laid; where the array is full, what was laid before. Nothing is left out,
+// however long a line is, and behind an error the writer has what it took.
+#[derive(Drop)]
+pub struct Page<W> {
+    to: W,
+    line: [u8; LINE],
+    length: usize,
+    ghost fits: { length ≤ 8192 },
+}
+
+impl<W: Write> Page<W> {
+    ghost use Rattle.text.specs.Page.{laid};
+
+    pub fn new(to: W) -> Self
+        ensures { Keeps (W.contents to) (laid W.contents result) }
+    {
+        Page {
+            to,
+            line: [0; LINE],
+            length: 0,
+        }
+    }
+
+    fn write_out(&mut self) -> io::Result<()>
+        ensures empty { OnOk result (self.new.length ≡ 0) }
+        ensures bytes { OnOk result (Keeps (laid W.contents self.old) (laid W.contents self.new)) }
+    {
+        self.to.write_all(&self.line[..self.length])?;
+        self.length = 0;
+        Ok(())
+    }
+
+    // Room for so many bytes; for more than a page holds, all of it.
+    fn make_room(&mut self, count: usize) -> io::Result<()>
+        ensures room { OnOk result (count ≤ 8192 → self.new.length + count ≤ 8192) }
+        ensures empty { OnOk result (8192 < count → self.new.length ≡ 0) }
+        ensures bytes { OnOk result (Keeps (laid W.contents self.old) (laid W.contents self.new)) }
+    {
+        if LINE - self.length < count {
+            return self.write_out();
+        }
+        Ok(())
+    }
+
+    fn lay(&mut self, text: &[u8])
+        requires { self.old.length + length text.now ≤ 8192 }
+        ensures { Appends (laid W.contents self.old) (laid W.contents self.new) text.now }
+    {
+        copy_at(&mut self.line, self.length, text);
+        self.length += text.len();
+    }
+}
+
+impl<W: Write> Write for Page<W> {
+    ghost use Rattle.std.specs.Io.KnownBytes.{WriteAppends};
+    ghost use Rattle.text.specs.Page.{laid};
+
+    fn write(&mut self, text: &[u8]) -> io::Result<usize> {
+        self.write_all(text)?;
+        Ok(text.len())
+    }
+
+    fn flush(&mut self) -> io::Result<()> {
+        self.write_out()?;
+        self.to.flush()
+    }
+
+    fn write_all(&mut self, text: &[u8]) -> io::Result<()>
+        ensures bytes { OnOk result (Appends (laid W.contents self.old) (laid W.contents self.new) text.now) }
+    {
+        self.make_room(text.len())?;
+        if LINE < text.len() {
+            return self.to.write_all(text);
+        }
+        self.lay(text);
+        if text.ends_with(b"\n") {
+            return self.write_out();
+        }
+        Ok(())
+    }
+}
+
+// Bytes in hexadecimal digits, upper case; `-` for none.
+#[derive(Clone, Copy)]
+pub struct Hex<'a>(pub &'a [u8]);
+
+impl fmt::Display for Hex<'_> {
+    fn fmt<W: fmt::Write>(&self, f: &mut Formatter<W>) -> fmt::Result {
+        if self.0.is_empty() {
+            return f.write_str("-");
+        }
+        let (words, rest) = self.0.as_chunks::<8>();
+        for word in words {
+            write!(f, "{:016X}", u64::from_be_bytes(*word))?;
+        }
+        for byte in rest {
+            write!(f, "{byte:02X}")?;
+        }
+        Ok(())
+    }
+}
+
+// Bytes as characters, and a dot for each that is no printable one.
+#[derive(Clone, Copy)]
+pub struct Printable<'a>(pub &'a [u8]);
+
+impl fmt::Display for Printable<'_> {
+    fn fmt<W: fmt::Write>(&self, f: &mut Formatter<W>) -> fmt::Result {
+        for byte in self.0 {
+            let is_printable = matches!(*byte, b' '..=b'~');
+            f.write_char(if is_printable { char::from(*byte) } else { '.' })?;
+        }
+        Ok(())
+    }
+}
+
+// Of longer bytes that are quoted the beginning will do.
+const QUOTED: usize = 60;
+
+// Bytes as characters in quotes; of many the beginning, and two dots.
+#[derive(Clone, Copy)]
+pub struct Quoted<'a>(pub &'a [u8]);
+
+impl fmt::Display for Quoted<'_> {
+    fn fmt<W: fmt::Write>(&self, f: &mut Formatter<W>) -> fmt::Result {
+        match self.0.split_at_checked(QUOTED) {
+            Some((beginning, [_, ..])) => write!(f, "\"{}\"..", Printable(beginning)),
+            _ => write!(f, "\"{}\"", Printable(self.0)),
+        }
+    }
+}
