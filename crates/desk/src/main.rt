@@ -3,13 +3,14 @@
 
 mod turn;
 
+use base::answer;
 use base::buffer::part;
-use chain::Joining;
+use chain::Joined;
 use state::Outcome;
 use std::io;
 use std::io::Write;
-use text::lay;
-use turn::{FRAME, ROOM, SLOTS, Turn};
+use text::page::Page;
+use turn::{End, Incoming};
 
 // Two packets.
 const LOAN: [u8; 300] =
@@ -22,111 +23,67 @@ const NOISE: u32 = 14;
 
 const NOISY: u32 = 400;
 
-// The texts of tell by their places. DESK and CHIP are the first of three: what an end answers, gets and sends. 0 is not told.
-const DESK: usize = 0;
+fn tell_turn(to: &mut impl Write, end: &str, ms: u32, o: Outcome) -> io::Result<()> {
+    if o.answer != answer::DONE {
+        writeln!(to, "[{ms}] the {end} answers {}", o.answer)?;
+    }
+    if o.delivered != 0 {
+        writeln!(to, "[{ms}] the {end} gets {} bytes", o.delivered)?;
+    }
+    if o.sent != 0 {
+        writeln!(to, "[{ms}] the {end} sends {} bytes", o.sent)?;
+    }
+    Ok(())
+}
 
-const CHIP: usize = 3;
+fn carried<'a>(to: &mut impl Write, sent: &'a [u8], ms: u32) -> io::Result<&'a [u8]> {
+    if NOISY <= ms.wrapping_sub(NOISE) {
+        return Ok(sent);
+    }
+    if !sent.is_empty() {
+        writeln!(to, "[{ms}] {} bytes are lost on the way", sent.len())?;
+    }
+    Ok(&[])
+}
 
-const LOST: usize = 6;
-
-const JOINED: usize = 7;
-
-const WHOLE: usize = 8;
-
-const WRONG: usize = 9;
-
-fn tell(to: &mut impl Write, what: usize, ms: u32, number: u16) -> io::Result<()> {
-    match number {
-        0 => Ok(()),
-        _ => lay::write_chosen(
+fn tell_joined(to: &mut impl Write, ms: u32, j: Joined, room: &[u8]) -> io::Result<()> {
+    let length = j.length;
+    if j.answer != answer::DONE {
+        writeln!(to, "[{ms}] joining answers {}", j.answer)?;
+    }
+    if length == 0 {
+        return Ok(());
+    }
+    if part(room, 0, usize::from(length)) == LOAN.as_slice() {
+        return writeln!(
             to,
-            b"[%] the desk answers %\n|[%] the desk gets % bytes\n|[%] the desk sends % bytes\n|[%] the chip answers %\n|[%] the chip gets % bytes\n|[%] the chip sends % bytes\n|[%] % bytes are lost on the way\n|[%] joining answers %\n|[%] the chip has the loan, % bytes, as it was sent\n|[%] the chip has a message of % bytes that nobody sent\n",
-            what,
-            ms as u64,
-            number as u64,
-            0,
-        ),
+            "[{ms}] the chip has the loan, {length} bytes, as it was sent"
+        );
     }
-}
-
-fn tell_turn(to: &mut impl Write, who: usize, ms: u32, o: Outcome) -> io::Result<()> {
-    tell(to, who, ms, o.answer as u16)?;
-    tell(to, std::num::wrapping_add_usize(who, 1), ms, o.delivered)?;
-    tell(to, std::num::wrapping_add_usize(who, 2), ms, o.sent)
-}
-
-fn carried<'a>(
-    to: &mut impl Write,
-    frame: &'a [u8; FRAME],
-    sent: u16,
-    ms: u32,
-) -> io::Result<&'a [u8]> {
-    match std::num::wrapping_sub_u32(ms, NOISE) < NOISY {
-        true => {
-            tell(to, LOST, ms, sent)?;
-            Ok(part(frame, 0, 0))
-        }
-        false => Ok(part(frame, 0, sent as usize)),
-    }
-}
-
-fn joined_by(
-    to: &mut impl Write,
-    j: Joining,
-    t: Turn,
-    received: &[u8],
-    room: &mut [u8; ROOM],
-    ms: u32,
-) -> io::Result<Joining> {
-    let joined = turn::join(j, t, received, room);
-    tell(to, JOINED, ms, joined.answer as u16)?;
-    match part(room, 0, joined.length as usize) == LOAN.as_slice() {
-        true => tell(to, WHOLE, ms, joined.length)?,
-        false => tell(to, WRONG, ms, joined.length)?,
-    }
-    Ok(joined.state)
+    writeln!(
+        to,
+        "[{ms}] the chip has a message of {length} bytes that nobody sent"
+    )
 }
 
 fn main(rt: HostRuntime) -> io::Result<()> {
-    let mut to = rt.stdout();
-    let mut desk_slots = [0u8; SLOTS];
-    let mut chip_slots = [0u8; SLOTS];
-    let mut desk_frame = [0u8; FRAME];
-    let mut chip_frame = [0u8; FRAME];
-    let mut room = [0u8; ROOM];
+    let mut page = Page::new(rt.stdout());
     // The clock wraps after the first turn.
     let mut ms: u32 = 4294967290;
-    let mut turns: u32 = 60;
-    let mut chip = turn::start(&chip_slots);
-    let started = turn::start(&desk_slots);
-    let mut desk = turn::renew(started, &desk_slots, &mut desk_frame, ms);
-    let mut joining = chain::fresh_joining();
-    while 0 < turns {
-        turns -= 1;
-        tell_turn(&mut to, DESK, ms, desk.last)?;
-        let to_chip = carried(&mut to, &desk_frame, desk.last.sent, ms)?;
-        chip = turn::serve(
-            chip,
-            &mut chip_slots,
-            &mut chip_frame,
-            ms,
-            to_chip,
-            b"",
-            joining.opened,
-        );
-        tell_turn(&mut to, CHIP, ms, chip.last)?;
-        joining = joined_by(&mut to, joining, chip, to_chip, &mut room, ms)?;
-        let to_desk = carried(&mut to, &chip_frame, chip.last.sent, ms)?;
-        ms = std::num::wrapping_add_u32(ms, 10);
-        desk = turn::serve(
-            desk,
-            &mut desk_slots,
-            &mut desk_frame,
-            ms,
-            to_desk,
-            &LOAN,
-            false,
-        );
+    let mut chip = End::start();
+    let mut desk = End::start();
+    desk.renew(ms);
+    let mut incoming = Incoming::new();
+    for _ in 0..60 {
+        tell_turn(&mut page, "desk", ms, desk.last)?;
+        let to_chip = carried(&mut page, desk.sent(), ms)?;
+        chip.serve(ms, to_chip, b"", incoming.joining.opened);
+        tell_turn(&mut page, "chip", ms, chip.last)?;
+        let joined = incoming.join(&chip, to_chip);
+        tell_joined(&mut page, ms, joined, &incoming.room)?;
+        let to_desk = carried(&mut page, chip.sent(), ms)?;
+        ms = ms.wrapping_add(10);
+        desk.serve(ms, to_desk, &LOAN, false);
     }
     Ok(())
 }

@@ -7,7 +7,7 @@ use frame::{Format, Heard};
 use state::{Link, Outcome, Settings};
 
 // D, that is DATA_REG_LEN
-pub const FRAME: usize = 277;
+const FRAME: usize = 277;
 
 // WIN_SIZE
 const WINDOW: usize = 2;
@@ -15,10 +15,10 @@ const WINDOW: usize = 2;
 // m
 const PACKET: usize = FRAME - 5;
 
-pub const SLOTS: usize = WINDOW * PACKET;
+const SLOTS: usize = WINDOW * PACKET;
 
 // The longest message has as many bytes, whatever the settings.
-pub const ROOM: usize = 4096;
+const ROOM: usize = 4096;
 
 // Milliseconds, and TRANS_REPEAT, for a bus of 400 kHz. The other end needs the same.
 const SETTINGS: Settings = Settings {
@@ -32,125 +32,138 @@ const SETTINGS: Settings = Settings {
     repeats: 3,
 };
 
-// What a turn leaves: all that its call gave, the end's state in it; how many packets of the message are taken; and whether the end was
-// made fresh, so that what came in before is to be thrown away.
-#[derive(Clone, Copy)]
-pub struct Turn {
+// An end: all that its last call gave, its state in it; how many packets of the message are taken; whether the end was made fresh, so that
+// what came in before is to be thrown away; its slots, and the frame that it sends.
+#[derive(Drop)]
+pub struct End {
     pub last: Outcome,
     pub taken: u32,
     pub renewed: bool,
+    slots: [u8; SLOTS],
+    frame: [u8; FRAME],
 }
 
-fn begun(last: Outcome) -> Turn {
-    Turn {
-        last,
-        taken: 0,
-        renewed: true,
+impl End {
+    // A start that is refused leaves a state to which every turn answers 1.
+    pub fn start() -> Self {
+        let slots = [0; SLOTS];
+        End {
+            last: link::start(SETTINGS, &slots),
+            taken: 0,
+            renewed: true,
+            slots,
+            frame: [0; FRAME],
+        }
+    }
+
+    // To begin, and where the peer's program does not answer in time: both ends are to be fresh. The frame is to be sent.
+    pub fn renew(&mut self, ms: u32) {
+        self.last = link::resynchronise(self.last.state, &self.slots, &mut self.frame, ms);
+        self.taken = 0;
+        self.renewed = true;
+    }
+
+    // What is to be sent.
+    pub fn sent(&self) -> &[u8] {
+        part(&self.frame, 0, usize::from(self.last.sent))
     }
 }
 
-// A start that is refused leaves a state to which every turn answers 1.
-pub fn start(slots: &[u8]) -> Turn {
-    begun(link::start(SETTINGS, slots))
-}
-
-// To begin, and where the peer's program does not answer in time: both ends are to be fresh. The frame is to be sent.
-pub fn renew(t: Turn, slots: &[u8], frame: &mut [u8], ms: u32) -> Turn {
-    begun(link::resynchronise(t.last.state, slots, frame, ms))
-}
-
-// What has arrived comes first, since it may make room for the packet; a lost end would not hear it. In a hurry: the peer has more to
-// send, and should not wait for our timer.
-fn one_call(
-    l: Link,
-    slots: &mut [u8],
-    frame: &mut [u8],
-    ms: u32,
-    received: &[u8],
-    packet: &[u8],
-    hurry: bool,
-) -> Outcome {
-    if l.lost {
-        return link::resynchronise(l, slots, frame, ms);
+impl End {
+    // What has arrived comes first, since it may make room for the packet; a lost end would not hear it. In a hurry: the peer has more to
+    // send, and should not wait for our timer.
+    fn one_call(&mut self, ms: u32, received: &[u8], packet: &[u8], hurry: bool) -> Outcome {
+        let l = self.last.state;
+        if l.lost {
+            return link::resynchronise(l, &self.slots, &mut self.frame, ms);
+        }
+        if !received.is_empty() {
+            return link::take(l, &self.slots, &mut self.frame, ms, received);
+        }
+        if !packet.is_empty() && l.waiting < l.settings.window {
+            return link::submit(l, &mut self.slots, &mut self.frame, ms, packet);
+        }
+        if hurry && l.acking {
+            return link::acknowledge(l, &self.slots, &mut self.frame, ms);
+        }
+        link::look(l, &self.slots, &mut self.frame, ms).outcome
     }
-    if 0 < received.len() {
-        return link::take(l, slots, frame, ms, received);
-    }
-    if (0 < packet.len()) & (l.waiting < l.settings.window) {
-        return link::submit(l, slots, frame, ms, packet);
-    }
-    if hurry & l.acking {
-        return link::acknowledge(l, slots, frame, ms);
-    }
-    let looked = link::look(l, slots, frame, ms);
-    looked.outcome
 }
 
 fn is_reset(received: &[u8]) -> bool {
-    let heard = frame::hear(SETTINGS.format, received);
-    match heard {
-        Heard::Reset => true,
-        _ => false,
-    }
+    matches!(frame::hear(SETTINGS.format, received), Heard::Reset)
 }
 
 // A turn that is done makes a lost end fresh, and so does a reset that comes in. `dropped` does not show it: it is 0 if nothing waited.
-fn is_renewed(l: Link, received: &[u8], answer: u8) -> bool {
-    (l.lost | is_reset(received)) & (answer == answer::DONE)
+fn is_renewed(before: Link, received: &[u8], answer: u8) -> bool {
+    (before.lost || is_reset(received)) && answer == answer::DONE
 }
 
-// Only a submit that is done makes more packets wait. At an end that is fresh again the message begins again; what it had taken may have
-// arrived, so the message needs a number in it, by which the other side's program knows it.
-fn count(t: Turn, o: Outcome, renewed: bool) -> u32 {
-    let more = t.last.state.waiting < o.state.waiting;
-    match renewed {
-        true => 0,
-        false => std::num::wrapping_add_u32(t.taken, more as u32),
+impl End {
+    // Only a submit that is done makes more packets wait. At an end that is fresh again the message begins again; what it had taken may have
+    // arrived, so the message needs a number in it, by which the other side's program knows it.
+    fn count(&self, before: Link) -> u32 {
+        if self.renewed {
+            return 0;
+        }
+        let more = before.waiting < self.last.state.waiting;
+        self.taken.wrapping_add(u32::from(more))
+    }
+
+    // Once round the loop. The message is the same in every turn until the peer's program has answered it, then b"", and `taken` is set to 0
+    // with each new one. Where all its packets are taken (16), or there is none (13), cut gives 0 bytes; so it does of one that is too long.
+    pub fn serve(&mut self, ms: u32, received: &[u8], message: &[u8], hurry: bool) {
+        let mut packet = [0; PACKET];
+        let piece = chain::cut(PACKET as u16, message, self.taken, &mut packet);
+        let next = part(&packet, 0, usize::from(piece.length));
+        let before = self.last.state;
+        self.last = self.one_call(ms, received, next, hurry);
+        self.renewed = is_renewed(before, received, self.last.answer);
+        self.taken = self.count(before);
     }
 }
 
-// Once round the loop. The message is the same in every turn until the peer's program has answered it, then b"", and `taken` is set to 0
-// with each new one. Where all its packets are taken (16), or there is none (13), cut gives 0 bytes; so it does of one that is too long.
-pub fn serve(
-    t: Turn,
-    slots: &mut [u8; SLOTS],
-    frame: &mut [u8; FRAME],
-    ms: u32,
-    received: &[u8],
-    message: &[u8],
-    hurry: bool,
-) -> Turn {
-    let mut packet = [0u8; PACKET];
-    let piece = chain::cut(PACKET as u16, message, t.taken, &mut packet);
-    let next = part(&packet, 0, piece.length as usize);
-    let last = one_call(t.last.state, slots, frame, ms, received, next, hurry);
-    let renewed = is_renewed(t.last.state, received, last.answer);
-    Turn {
-        last,
-        taken: count(t, last, renewed),
-        renewed,
+// A message that comes in: what is joined of it, in its room.
+#[derive(Drop)]
+pub struct Incoming {
+    pub joining: Joining,
+    pub room: [u8; ROOM],
+}
+
+impl Incoming {
+    pub fn new() -> Self {
+        Incoming {
+            joining: chain::fresh_joining(),
+            room: [0; ROOM],
+        }
+    }
+
+    fn joined(&mut self, end: &End, received: &[u8]) -> Joined {
+        let delivered = usize::from(end.last.delivered);
+        if end.renewed {
+            return nothing_joined(chain::fresh_joining());
+        }
+        if delivered == 0 {
+            return nothing_joined(self.joining);
+        }
+        let packet = part(received, 3, delivered);
+        chain::join(PACKET as u16, self.joining, packet, &mut self.room)
+    }
+
+    // For every turn, also where nothing was delivered: at an end that is fresh again no packet belongs to those of before. The peer must be
+    // told of a `fault`; here it is not.
+    pub fn join(&mut self, end: &End, received: &[u8]) -> Joined {
+        let joined = self.joined(end, received);
+        self.joining = joined.state;
+        joined
     }
 }
 
-fn nothing_joined(j: Joining) -> Joined {
+fn nothing_joined(state: Joining) -> Joined {
     Joined {
-        state: j,
+        state,
         length: 0,
         answer: answer::DONE,
         fault: 0,
-    }
-}
-
-// For every turn, also where nothing was delivered: at an end that is fresh again no packet belongs to those of before. The peer must be
-// told of a `fault`; here it is not.
-pub fn join(j: Joining, t: Turn, received: &[u8], room: &mut [u8; ROOM]) -> Joined {
-    let renewed = t.renewed;
-    let delivered = t.last.delivered as usize;
-    match renewed {
-        true => nothing_joined(chain::fresh_joining()),
-        false => match delivered {
-            0 => nothing_joined(j),
-            _ => chain::join(PACKET as u16, j, part(received, 3, delivered), room),
-        },
     }
 }
