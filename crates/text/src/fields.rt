@@ -35,6 +35,7 @@ impl<'a> Fields<'a> {
         Fields { rest: Some(line) }
     }
 
+    // The next word, as it stands; it is empty where two spaces follow each other, or where one ends the line.
     pub fn word(&mut self) -> Option<&'a [u8]>
         ensures { IsSome result ↔ IsSome self.old.rest }
     {
@@ -47,6 +48,7 @@ impl<'a> Fields<'a> {
         Some(&rest[..end])
     }
 
+    // A number in decimal digits, no larger than its type.
     pub fn number<T: TryFrom<u64, Error = TryFromIntError>>(&mut self) -> Option<T>
         ensures { IsSome result → IsSome self.old.rest }
     {

@@ -10,8 +10,8 @@ use std::{fmt, io};
 // Longer than most lines, so that these are written at once.
 const LINE: usize = 8192;
 
-// A writer that is handed a line as soon as its line feed is laid; where the array is full, what was laid before. Nothing is left out,
-// however long a line is, and behind an error the writer has what it took.
+// A writer that is handed what waits as soon as a text ends in a line feed, so that no text waits beyond its line; and before the array
+// is too full for a text. Nothing is left out, however long a line is, and behind an error the writer has what it took.
 #[derive(Drop)]
 pub struct Page<W> {
     to: W,
