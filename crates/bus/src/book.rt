@@ -1,60 +1,75 @@
-// What a story keeps beside the ends: the packets that each end took and delivered since it was fresh. How many packets stand on a shelf is
-// what the end has counted.
-ghost use Rattle.std.specs.Prelude.{◌≤◌};
+// What a story keeps beside the ends: the packets that each end took and delivered since it was fresh. How many they are is what the end
+// has counted.
+use ends::bytes::Bytes;
+use ends::{PLACES, Side};
 
-use base::buffer::part;
-use ends::line::{PLACE, PLACES, put};
-use ends::moves::{CARRY, Event, Move, SUBMIT};
-use ends::{End, Store, line};
-use text::least;
-
-// Four shelves: what the desk took, what the chip took, what the desk delivered, what the chip delivered. Each has 64 places, and one for
-// what comes when these are full.
-const SHELVES: usize = 4;
-
-pub const TAKEN: usize = 0;
-
-pub const DELIVERED: usize = 2;
-
-const SHELF: usize = PLACES + 1;
-
-pub const BOOK: usize = 266760;
-
-pub type Book = [u8; BOOK];
-
-fn place_of(shelf: usize, n: usize) -> usize
-    ensures { result ≤ 265734 }
-{
-    (shelf % SHELVES * SHELF + least(n, PLACES)) * PLACE
+#[derive(Drop)]
+pub struct Shelf {
+    packets: [Bytes; PLACES],
 }
 
-// Packet n of the shelf.
-pub fn packet_at(book: &Book, shelf: usize, n: usize) -> &[u8] {
-    let place = place_of(shelf, n);
-    part(book, place + 2, line::length_at(book, place))
-}
+impl Shelf {
+    fn new() -> Shelf {
+        Shelf {
+            packets: [Bytes::empty(); PLACES],
+        }
+    }
 
-// Lays what a move at that end handed it, or what came of it, on the next place. If nothing was taken or delivered, the end does not
-// count it, and the next takes its place.
-pub fn keep(book: &mut Book, e: End, m: Move, v: Event, store: &Store, packet: &[u8]) {
-    let kind = m.kind;
-    let end = m.end % 2;
-    match kind {
-        SUBMIT => put(book, place_of(TAKEN + end, e.taken), packet),
-        CARRY => put(
-            book,
-            place_of(DELIVERED + end, e.delivered),
-            part(store, v.delivered_at, v.delivered),
-        ),
-        _ => {}
+    // Packet n stands here, if there is a place for it; what stood on the place is of an end that was not fresh since.
+    pub fn put(&mut self, n: usize, packet: &[u8]) {
+        if let Some(laid) = Bytes::new(packet)
+            && n < PLACES
+        {
+            self.packets[n] = laid;
+        }
+    }
+
+    // The first so many packets, or all where they are fewer.
+    pub fn first(&self, count: usize) -> &[Bytes] {
+        &self.packets[..count.min(PLACES)]
     }
 }
 
-// Whether the first so many packets of two shelves are the same.
-pub fn is_same(book: &Book, shelf: usize, other: usize, count: usize) -> bool {
-    let mut is_so = true;
-    for n in 0..count {
-        is_so = is_so & (packet_at(book, shelf, n) == packet_at(book, other, n));
+#[derive(Drop)]
+pub struct Shelves {
+    pub taken: Shelf,
+    pub delivered: Shelf,
+}
+
+impl Shelves {
+    fn new() -> Shelves {
+        Shelves {
+            taken: Shelf::new(),
+            delivered: Shelf::new(),
+        }
     }
-    is_so
+}
+
+#[derive(Drop)]
+pub struct Book {
+    desk: Shelves,
+    chip: Shelves,
+}
+
+impl Book {
+    pub fn new() -> Book {
+        Book {
+            desk: Shelves::new(),
+            chip: Shelves::new(),
+        }
+    }
+
+    pub fn of(&self, side: Side) -> &Shelves {
+        match side {
+            Side::Desk => &self.desk,
+            Side::Chip => &self.chip,
+        }
+    }
+
+    pub fn of_mut(&mut self, side: Side) -> &mut Shelves {
+        match side {
+            Side::Desk => &mut self.desk,
+            Side::Chip => &mut self.chip,
+        }
+    }
 }

@@ -1,117 +1,102 @@
 // A line's command: docs/BUS.md.
-use base::buffer::part;
-use ends::moves;
-use text::field::{BYTES, END as END_NAME, Fields, Form, TEXT, U8, U16, U32, Values, fields_from};
-use text::lines::Reader;
-use text::{field, lines};
+use ends::Side;
+use state::Settings;
+use text::fields::Fields;
+use text::settings;
 
-// The commands, in the order of the words. Those up to ROUND are moves and have the numbers that ends::moves gives them.
-pub const SUBMIT: usize = moves::SUBMIT;
-
-pub const CARRY: usize = moves::CARRY;
-
-pub const RESYNCHRONISE: usize = moves::RESYNCHRONISE;
-
-pub const LOSE: usize = moves::LOSE;
-
-pub const DAMAGE: usize = moves::DAMAGE;
-
-pub const WAIT: usize = moves::PASS;
-
-pub const ROUND: usize = moves::ROUND;
-
-pub const CLOCK: usize = 9;
-
-pub const SETTLE: usize = 10;
-
-pub const PAIR: usize = 11;
-
-pub const END: usize = 12;
-
-pub const SHOW: usize = 13;
-
-pub const TELL: usize = 14;
-
-// A line that is no command, and one that asks for nothing.
-pub const BAD: usize = 15;
-
-pub const SILENT: usize = 16;
-
-// values: the numbers of its fields. count: how many bytes it has.
+// Frames are named by their sender, and counted from 1 on.
 #[derive(Clone, Copy)]
-pub struct Command {
-    pub values: Values,
-    pub count: usize,
-    pub verb: usize,
+pub enum Command<'a> {
+    Pair(Settings, u32),
+    End,
+    Submit(Side, &'a [u8]),
+    Look(Side),
+    Acknowledge(Side),
+    Resynchronise(Side),
+    Carry(Side, usize),
+    Lose(Side, usize),
+    Damage(Side, usize, &'a [u8]),
+    Wait(u32),
+    Clock(u32),
+    Round(u8),
+    Settle,
+    Show,
+    Tell(&'a [u8]),
 }
 
-const FIELDS: [u64; 14] = [
-    U16, // pair D WIN TRANS ACK REP CLOCK ORDER
-    U8, U16, U16, U8, U32, U8, END_NAME, // lose END N, damage END N BYTES; look and its like END
-    U32, // clock MS, wait MS
-    BYTES, END_NAME, // carry END N
-    U8, // round N
-    END_NAME, // submit END TEXT
-    TEXT, // tell TEXT
-];
-
-fn form_of(verb: usize) -> Form {
-    match verb {
-        SUBMIT => fields_from(12, 14, 2),
-        CARRY => fields_from(10, 12, 1),
-        LOSE => fields_from(7, 9, 2),
-        DAMAGE => fields_from(7, 10, 3),
-        WAIT => fields_from(8, 9, 1),
-        ROUND => fields_from(11, 12, 0),
-        CLOCK => fields_from(8, 9, 1),
-        PAIR => fields_from(0, 7, 5),
-        TELL => fields_from(13, 14, 0),
-        BAD => fields_from(0, 0, 1),
-        _ => match verb <= RESYNCHRONISE {
-            true => fields_from(7, 8, 1),
-            false => fields_from(0, 0, 0),
-        },
+fn side(fields: &mut Fields<'_>) -> Option<Side> {
+    match fields.word()? {
+        b"desk" => Some(Side::Desk),
+        b"chip" => Some(Side::Chip),
+        _ => None,
     }
 }
 
-fn command_of(verb: usize, f: Fields) -> Command {
-    let values = f.values;
-    let good = f.good;
-    Command {
-        values,
-        count: f.count,
-        verb: match good {
-            true => verb,
-            false => BAD,
-        },
+// A number of times that is not given is 1, and so is 0.
+fn times(fields: &mut Fields<'_>) -> Option<u8> {
+    let times: u8 = fields.number_or_0()?;
+    Some(times.max(1))
+}
+
+fn number(fields: &mut Fields<'_>) -> Option<usize> {
+    let number: u32 = fields.number()?;
+    Some(number as usize)
+}
+
+fn pair<'a>(fields: &mut Fields<'a>) -> Option<Command<'a>> {
+    let mut s = settings::read(fields)?;
+    let clock = fields.number_or_0()?;
+    s.format.order = fields.number_or_0()?;
+    Some(Command::Pair(s, clock))
+}
+
+fn carry<'a>(fields: &mut Fields<'a>) -> Option<Command<'a>> {
+    let from = side(fields)?;
+    Some(Command::Carry(from, usize::from(times(fields)?)))
+}
+
+fn lose<'a>(fields: &mut Fields<'a>) -> Option<Command<'a>> {
+    let from = side(fields)?;
+    Some(Command::Lose(from, number(fields)?))
+}
+
+fn damage<'a>(fields: &mut Fields<'a>, room: &'a mut [u8]) -> Option<Command<'a>> {
+    let from = side(fields)?;
+    let n = number(fields)?;
+    Some(Command::Damage(from, n, fields.bytes(room)?))
+}
+
+fn submit<'a>(fields: &mut Fields<'a>) -> Option<Command<'a>> {
+    let at = side(fields)?;
+    Some(Command::Submit(at, fields.text()?))
+}
+
+fn of_word<'a>(word: &[u8], fields: &mut Fields<'a>, room: &'a mut [u8]) -> Option<Command<'a>> {
+    match word {
+        b"pair" => pair(fields),
+        b"end" => Some(Command::End),
+        b"submit" => submit(fields),
+        b"look" => Some(Command::Look(side(fields)?)),
+        b"acknowledge" => Some(Command::Acknowledge(side(fields)?)),
+        b"resynchronise" => Some(Command::Resynchronise(side(fields)?)),
+        b"carry" => carry(fields),
+        b"lose" => lose(fields),
+        b"damage" => damage(fields, room),
+        b"wait" => Some(Command::Wait(fields.number()?)),
+        b"clock" => Some(Command::Clock(fields.number()?)),
+        b"round" => Some(Command::Round(times(fields)?)),
+        b"settle" => Some(Command::Settle),
+        b"show" => Some(Command::Show),
+        b"tell" => Some(Command::Tell(fields.text().unwrap_or(&[]))),
+        _ => None,
     }
 }
 
-fn read_line(line: &[u8], bytes: &mut [u8]) -> Command {
-    let at = field::word_end(line);
-    let verb = field::place_of(
-        part(line, 0, at),
-        b"submit carry look acknowledge resynchronise lose damage wait round clock settle pair end show tell",
-    );
-    command_of(
-        verb,
-        field::read_form(line, at, &FIELDS, form_of(verb), bytes),
-    )
-}
-
-fn none(verb: usize) -> Command {
-    Command {
-        values: [0; field::FIELDS],
-        count: 0,
-        verb,
-    }
-}
-
-// The command of the line that the reader is at, if it is at one; its bytes are laid in `bytes`.
-pub fn read(line: &[u8], r: Reader, bytes: &mut [u8]) -> Command {
-    match lines::kind(line, r) {
-        lines::LINE => read_line(line, bytes),
-        lines::LONG => none(BAD),
-        _ => none(SILENT),
-    }
+// The line's command, its bytes laid in `room`; none where it is no command.
+pub fn read<'a>(line: &'a [u8], room: &'a mut [u8]) -> Option<Command<'a>> {
+    let mut fields = Fields::of(line);
+    let word = fields.word()?;
+    let command = of_word(word, &mut fields, room)?;
+    fields.end()?;
+    Some(command)
 }

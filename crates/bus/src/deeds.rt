@@ -1,175 +1,156 @@
 // A move of the ends, told in a line.
-use crate::words::say;
-use crate::{reason, words};
-use base::buffer::part;
-use ends::line::FRAME;
-use ends::moves::{CARRY, DAMAGE, Event, LOSE, Move, Moved, PASS, RESYNCHRONISE, ROUND, SUBMIT};
-use ends::{Ends, Store, hearing, line, moves};
-use state::Settings;
-use std::io;
+use crate::ending::Part;
+use crate::reason::Answer;
+use crate::story::Story;
+use crate::words::{Does, The};
+use base::answer::DONE;
+use ends::bytes::LONGEST;
+use ends::hearing::Hearing;
+use ends::moves::{Call, Event, Move};
+use ends::{Ends, Side};
+use std::fmt::Formatter;
 use std::io::Write;
-use text::{heard, lay};
+use std::{fmt, io};
+use text::heard::Frame;
+use text::page::Quoted;
 
-// Tells frame n of those on their way to the end; both ends have the same settings.
-pub fn tell_nth(
-    to: &mut impl Write,
-    store: &Store,
-    p: Ends,
-    end: usize,
-    n: usize,
-) -> io::Result<()> {
-    heard::write_frame(
-        to,
-        p.desk.link.settings.format,
-        line::frame_at(store, p, end, n),
-    )
+// Frame n of those on their way to the end; both ends have the same settings.
+fn nth_frame(ends: &Ends, to: Side, n: usize) -> Frame<'_> {
+    let end = ends.end(to);
+    let bytes = match end.arriving().get(n) {
+        Some(frame) => frame.as_slice(),
+        None => &[],
+    };
+    Frame(end.link.settings.format, bytes)
 }
 
-// ---- before the move
+// What came of a call.
+#[derive(Clone, Copy)]
+struct Came<'a>(Answer<'a>);
 
-fn tell_doer(to: &mut impl Write, clock: u32, m: Move) -> io::Result<()> {
-    say(to, words::CLOCK, clock as u64, 0, 0)?;
-    words::name(to, m.end)?;
-    say(
-        to,
-        std::num::wrapping_add_usize(words::DOES, m.kind),
-        0,
-        0,
-        0,
-    )
-}
-
-// Which frame something becomes of.
-fn tell_harmed(to: &mut impl Write, store: &Store, p: Ends, m: Move) -> io::Result<()> {
-    say(to, words::CLOCK, p.clock as u64, 0, 0)?;
-    tell_nth(to, store, p, m.end, m.number as usize)?;
-    say(to, words::FROM, 0, 0, 0)?;
-    words::name(to, ends::other(m.end))
-}
-
-fn tell_deed(to: &mut impl Write, store: &Store, p: Ends, m: Move, bytes: &[u8]) -> io::Result<()> {
-    let kind = m.kind;
-    match kind {
-        SUBMIT => {
-            tell_doer(to, p.clock, m)?;
-            lay::write_quoted(to, bytes)
+impl Came<'_> {
+    fn tell_packets<W: fmt::Write>(&self, f: &mut Formatter<W>) -> fmt::Result {
+        let event = self.0.event;
+        if let Some(packet) = &event.delivered {
+            write!(f, ", delivers {}", Quoted(packet.as_slice()))?;
         }
-        CARRY => {
-            tell_doer(to, p.clock, m)?;
-            tell_nth(to, store, p, m.end, 0)
+        if 0 < event.freed {
+            write!(f, ", frees {}", event.freed)?;
         }
-        LOSE => tell_harmed(to, store, p, m),
-        DAMAGE => tell_harmed(to, store, p, m),
-        _ => match kind <= RESYNCHRONISE {
-            true => tell_doer(to, p.clock, m),
-            false => Ok(()),
-        },
+        if 0 < event.dropped {
+            write!(f, ", drops {}, which may have arrived", event.dropped)?;
+        }
+        Ok(())
     }
 }
 
-// ---- after it
-
-// The number in a reason: the longest frame, for one of a wrong size; else how many bytes a submit was handed.
-fn measure(s: Settings, heard: usize, count: usize) -> u64 {
-    match heard {
-        hearing::SIZE => s.format.d as u64,
-        _ => count as u64,
+impl fmt::Display for Came<'_> {
+    fn fmt<W: fmt::Write>(&self, f: &mut Formatter<W>) -> fmt::Result {
+        self.tell_packets(f)?;
+        write!(f, "{}", self.0)?;
+        let event = self.0.event;
+        if let Some(frame) = &event.sent {
+            let format = self.0.settings.format;
+            write!(f, ", sends {}", Frame(format, frame.as_slice()))?;
+        }
+        if event.is_crowded {
+            f.write_str(", which is lost: too many frames are on their way")?;
+        }
+        Ok(())
     }
 }
 
-// count: how many bytes a submit was handed.
-fn tell_event(
-    to: &mut impl Write,
-    store: &Store,
-    p: Ends,
-    v: Event,
-    count: usize,
-) -> io::Result<()> {
-    match v.delivered == 0 {
-        true => {}
-        false => {
-            say(to, words::DELIVERS, 0, 0, 0)?;
-            lay::write_quoted(to, part(store, v.delivered_at, v.delivered))?;
+impl<W: Write> Story<W> {
+    // ---- before the move
+
+    fn tell_call(&mut self, side: Side, call: Call, packet: &[u8]) -> io::Result<()> {
+        let (to, ends) = (&mut self.to, &self.ends);
+        write!(to, "[{}] {} {}", ends.clock, The(side), Does(call))?;
+        match call {
+            Call::Submit => write!(to, " {}", Quoted(packet)),
+            Call::Carry => write!(to, " {}", nth_frame(ends, side, 0)),
+            _ => Ok(()),
         }
     }
-    words::say_some(to, words::FREES, v.freed as u64)?;
-    words::say_some(to, words::DROPS, v.dropped as u64)?;
-    say(
-        to,
-        reason::place_of(v.answer, v.heard, v.was_lost),
-        v.answer as u64,
-        measure(p.desk.link.settings, v.heard, count),
-        state::limit(p.desk.link.settings) as u64,
-    )?;
-    match v.sent == 0 {
-        true => {}
-        false => {
-            say(to, words::SENDS, 0, 0, 0)?;
-            heard::write_frame(
-                to,
-                p.desk.link.settings.format,
-                part(store, v.sent_at, v.sent),
-            )?;
+
+    // Which frame something becomes of.
+    fn tell_harmed(&mut self, side: Side, n: usize) -> io::Result<()> {
+        let (to, ends) = (&mut self.to, &self.ends);
+        let frame = nth_frame(ends, side, n);
+        write!(to, "[{}] {frame} from {}", ends.clock, The(side.other()))
+    }
+
+    fn tell_deed(&mut self, m: Move, bytes: &[u8]) -> io::Result<()> {
+        match m {
+            Move::Call(side, call) => self.tell_call(side, call, bytes),
+            Move::Lose(side, n) | Move::Damage(side, n) => self.tell_harmed(side, n),
+            Move::Pass(_) | Move::Round => Ok(()),
         }
     }
-    words::say_if(to, v.is_crowded, words::CROWDED)?;
-    say(to, words::END_LINE, 0, 0, 0)
-}
 
-// The promises speak of damage that step 1 refuses; here any will do, and other is told as a forgery.
-fn tell_damage(to: &mut impl Write, p: Ends, bytes: &[u8]) -> io::Result<()> {
-    let format = p.desk.link.settings.format;
-    match FRAME < bytes.len() {
-        true => say(to, words::STAYS, 0, 0, 0)?,
-        false => {
-            say(to, words::DAMAGED, 0, 0, 0)?;
-            heard::write_frame(to, format, bytes)?;
+    // ---- after it
+
+    // size: how many bytes a submit was handed.
+    fn tell_event(&mut self, event: &Event, size: usize) -> io::Result<()> {
+        let settings = self.ends.desk.link.settings;
+        let came = Came(Answer {
+            event,
+            settings,
+            size,
+        });
+        writeln!(self.to, "{came}")
+    }
+
+    // The promises speak of damage that step 1 refuses; here any will do, and other is told as a forgery.
+    fn tell_damage(&mut self, bytes: &[u8]) -> io::Result<()> {
+        let format = self.ends.desk.link.settings.format;
+        if LONGEST < bytes.len() {
+            write!(self.to, " stays: no frame has over {LONGEST} bytes")?;
+        } else {
+            write!(self.to, " is damaged: now {}", Frame(format, bytes))?;
+        }
+        if Hearing::of(format, bytes).passes_step_1() {
+            write!(self.to, ", forged: its checksum is right")?;
+        }
+        writeln!(self.to)
+    }
+
+    fn tell_outcome(&mut self, m: Move, bytes: &[u8]) -> io::Result<()> {
+        let clock = self.ends.clock;
+        match m {
+            Move::Lose(_, _) => writeln!(self.to, " is lost"),
+            Move::Damage(_, _) => self.tell_damage(bytes),
+            Move::Pass(ms) if 0 < ms => writeln!(self.to, "[{clock}] {ms} ms later"),
+            Move::Round => writeln!(self.to, "[{clock}] -- round {}", self.ends.rounds),
+            _ => Ok(()),
         }
     }
-    words::say_if(
-        to,
-        hearing::TURNED < hearing::of(format, bytes),
-        words::FORGED,
-    )?;
-    say(to, words::END_LINE, 0, 0, 0)
-}
 
-fn tell_outcome(
-    to: &mut impl Write,
-    store: &Store,
-    p: Ends,
-    m: Move,
-    v: Event,
-    bytes: &[u8],
-) -> io::Result<()> {
-    let kind = m.kind;
-    match kind {
-        LOSE => say(to, words::LOST, 0, 0, 0),
-        DAMAGE => tell_damage(to, p, bytes),
-        PASS => match m.number == 0 {
-            true => Ok(()),
-            false => say(to, words::LATER, p.clock as u64, m.number as u64, 0),
-        },
-        ROUND => say(to, words::ROUND, p.clock as u64, p.rounds, 0),
-        _ => match kind <= RESYNCHRONISE {
-            true => tell_event(to, store, p, v, bytes.len()),
-            false => Ok(()),
-        },
+    // ---- the move
+
+    // What the end took or delivered, which had counted so many before.
+    fn keep(&mut self, side: Side, call: Call, event: &Event, before: Part, packet: &[u8]) {
+        let count = before.count(side);
+        let shelves = self.book.of_mut(side);
+        if call == Call::Submit && event.answer == DONE {
+            shelves.taken.put(count.taken, packet);
+        }
+        if let Some(packet) = &event.delivered {
+            shelves.delivered.put(count.delivered, packet.as_slice());
+        }
     }
-}
 
-// ---- the move
-
-// Makes a move, and tells it. bytes: what a submit is handed, or what a damaged frame becomes.
-pub fn play(
-    to: &mut impl Write,
-    p: Ends,
-    m: Move,
-    store: &mut Store,
-    bytes: &[u8],
-) -> io::Result<Moved> {
-    tell_deed(to, store, p, m, bytes)?;
-    let moved = moves::make(p, m, store, bytes);
-    tell_outcome(to, store, moved.ends, m, moved.event, bytes)?;
-    Ok(moved)
+    // Makes a move, and tells it. bytes: what a submit is handed, or what a damaged frame becomes.
+    pub fn play(&mut self, m: Move, bytes: &[u8]) -> io::Result<()> {
+        self.tell_deed(m, bytes)?;
+        let before = Part::of(&self.ends);
+        match (m, self.ends.make(m, bytes)) {
+            (Move::Call(side, call), Some(event)) => {
+                self.tell_event(&event, bytes.len())?;
+                self.keep(side, call, &event, before, bytes);
+            }
+            _ => self.tell_outcome(m, bytes)?,
+        }
+        self.tell_turn(before)
+    }
 }

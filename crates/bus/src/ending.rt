@@ -1,143 +1,190 @@
 // What the two ends are at a moment, what came of a stretch, and of it all in the end.
-use crate::book::{Book, DELIVERED, TAKEN};
-use crate::words::{say, say_if};
-use crate::{book, deeds, words};
-use ends::line::PLACES;
-use ends::stretch::{FORGED, OUTSIDE, UNSET};
-use ends::{CHIP, DESK, End, Ends, Store};
-use state::Link;
+use crate::story::Story;
+use crate::words::{State, The, Waiting};
+use ends::bytes::Bytes;
+use ends::end::Count;
+use ends::stretch::{Phase, Stretch};
+use ends::{Ends, Side};
 use std::io;
 use std::io::Write;
-use text::{lay, least};
+use text::heard::Frame;
+use text::page::Quoted;
 
-// ---- a moment
-
-fn tell_frames(
-    to: &mut impl Write,
-    store: &Store,
-    p: Ends,
-    end: usize,
-    count: usize,
-) -> io::Result<()> {
-    for n in 0..count {
-        say(to, words::ON_ITS_WAY, 0, 0, 0)?;
-        deeds::tell_nth(to, store, p, end, n)?;
-        say(to, words::END_LINE, 0, 0, 0)?;
-    }
-    Ok(())
+// What a stretch came to so far, or what is behind it.
+#[derive(Clone, Copy)]
+pub struct Part {
+    stretch: Stretch,
+    desk: Count,
+    chip: Count,
 }
 
-fn tell_link(to: &mut impl Write, l: Link) -> io::Result<()> {
-    say(
-        to,
-        words::NUMBERS,
-        l.next as u64,
-        l.expected as u64,
-        l.waiting as u64,
-    )?;
-    say_if(to, l.acking, words::OWES)?;
-    say_if(to, l.nakmark, words::COMPLAINED)?;
-    say_if(to, l.lost, words::LINK_LOST)?;
-    say(to, words::END_LINE, 0, 0, 0)
+impl Part {
+    pub fn of(ends: &Ends) -> Part {
+        Part {
+            stretch: ends.stretch,
+            desk: ends.desk.count,
+            chip: ends.chip.count,
+        }
+    }
+
+    pub fn count(self, side: Side) -> Count {
+        match side {
+            Side::Desk => self.desk,
+            Side::Chip => self.chip,
+        }
+    }
+}
+
+// Whether anything is promised of it.
+fn is_promised(phase: Phase) -> bool {
+    matches!(phase, Phase::First | Phase::Later)
+}
+
+fn are_same(some: &[Bytes], others: &[Bytes]) -> bool {
+    some.iter()
+        .zip(others)
+        .all(|(a, b)| a.as_slice() == b.as_slice())
 }
 
 // Tells the end, and what is on its way to it.
-pub fn show(to: &mut impl Write, store: &Store, p: Ends, end: usize, e: End) -> io::Result<()> {
-    say(to, words::CLOCK, p.clock as u64, 0, 0)?;
-    words::name(to, end)?;
-    tell_link(to, e.link)?;
-    tell_frames(to, store, p, end, e.queue)
-}
-
-// ---- a stretch, or what is behind it
-
-fn tell_packets(to: &mut impl Write, book: &Book, shelf: usize, count: usize) -> io::Result<()> {
-    for n in 0..count {
-        say(to, words::INDENT, 0, 0, 0)?;
-        lay::write_quoted(to, book::packet_at(book, shelf, n))?;
-        say(to, words::END_LINE, 0, 0, 0)?;
+fn show(to: &mut impl Write, ends: &Ends, side: Side) -> io::Result<()> {
+    let end = ends.end(side);
+    let clock = ends.clock;
+    writeln!(to, "[{clock}] {}: {}", The(side), State(end))?;
+    let format = end.link.settings.format;
+    for frame in end.arriving() {
+        writeln!(
+            to,
+            "  on its way there: {}",
+            Frame(format, frame.as_slice())
+        )?;
     }
     Ok(())
 }
 
-// Outside of a stretch nothing is claimed of what arrives.
-fn place_of(phase: usize, is_same: bool) -> usize {
-    match phase {
-        OUTSIDE => words::GOT_OUTSIDE,
-        _ => match is_same {
-            true => words::GOT,
-            false => words::GOT_OTHERS,
-        },
-    }
-}
-
-// What the end got of what the other took.
-fn tell_got(
-    to: &mut impl Write,
-    book: &Book,
-    phase: usize,
-    end: usize,
-    got: usize,
-    taken: usize,
-) -> io::Result<()> {
-    let shelf = DELIVERED + end % 2;
-    let sender = ends::other(end);
-    let is_same = book::is_same(book, shelf, TAKEN + sender % 2, got) & (got <= taken);
-    words::name(to, end)?;
-    say(to, place_of(phase, is_same), got as u64, taken as u64, 0)?;
-    words::name(to, sender)?;
-    say_if(to, is_same & (0 < got) & (phase < FORGED), words::IN_ORDER)?;
-    say(to, words::END_LINE, 0, 0, 0)?;
-    tell_packets(to, book, shelf, least(got, PLACES))
-}
-
-fn tell_part(to: &mut impl Write, book: &Book, p: Ends) -> io::Result<()> {
-    say(
+// Tells what is left, and how long it all took.
+fn tell_rest(to: &mut impl Write, ends: &Ends) -> io::Result<()> {
+    writeln!(
         to,
-        std::num::wrapping_add_usize(words::PART, p.phase),
-        p.stretches,
-        0,
-        0,
+        "waiting at the desk: {}, at the chip: {}",
+        Waiting(&ends.desk),
+        Waiting(&ends.chip)
     )?;
-    tell_got(to, book, p.phase, CHIP, p.chip.delivered, p.desk.taken)?;
-    tell_got(to, book, p.phase, DESK, p.desk.delivered, p.chip.taken)
+    let (rounds, passed) = (ends.rounds, ends.passed);
+    writeln!(to, "timer rounds: {rounds}, milliseconds: {passed}")
 }
 
-// Tells what a stretch came to where a move has made an end of it, which takes and delivers nothing; and where another begins.
-pub fn tell_turn(to: &mut impl Write, book: &Book, before: Ends, after: Ends) -> io::Result<()> {
-    let is_other = before.stretches != after.stretches;
-    match (before.phase < OUTSIDE) & (is_other | (after.phase == OUTSIDE)) {
-        true => {
-            say(to, words::OVER, before.stretches, 0, 0)?;
-            tell_part(to, book, before)?;
-        }
-        false => {}
-    }
-    match is_other {
-        true => say(to, words::BEGINS, after.stretches, 0, 0),
-        false => Ok(()),
+// What stands before and behind the number of packets taken, where the end got others. Outside of a stretch nothing is claimed of them.
+fn words_of_got(phase: Phase, is_same: bool) -> (&'static str, &'static str) {
+    match phase {
+        Phase::Outside => (" packets, and ", " were taken at "),
+        _ if is_same => (" of ", " packets taken at "),
+        _ => (
+            " packets; one by one, these are NOT the ",
+            " packets taken at ",
+        ),
     }
 }
 
-// ---- the end
-
-fn tell_waiting(to: &mut impl Write, n: usize, l: Link, dropped: u64) -> io::Result<()> {
-    say(to, n, l.waiting as u64, 0, 0)?;
-    say_if(to, l.lost, words::IS_LOST)?;
-    words::say_some(to, words::DROPPED, dropped)
+// What stands before and behind a stretch's number, where its part of the story has a heading.
+fn heading(phase: Phase) -> Option<(&'static str, &'static str)> {
+    match phase {
+        Phase::Unset | Phase::First => None,
+        Phase::Later => Some(("in stretch ", ":")),
+        Phase::Forged => Some((
+            "in stretch ",
+            ", of which nothing is promised, since a frame was forged:",
+        )),
+        Phase::Outside => Some((
+            "behind stretch ",
+            ", where nothing is promised; counted since each end was last fresh:",
+        )),
+    }
 }
 
-// Tells who got what, what is left, and how long it took; nothing where there is no pair.
-pub fn tell(to: &mut impl Write, book: &Book, p: Ends) -> io::Result<()> {
-    match p.phase == UNSET {
-        true => Ok(()),
-        false => {
-            say(to, words::IN_THE_END, 0, 0, 0)?;
-            tell_part(to, book, p)?;
-            tell_waiting(to, words::AT_DESK, p.desk.link, p.desk.dropped)?;
-            tell_waiting(to, words::AT_CHIP, p.chip.link, p.chip.dropped)?;
-            say(to, words::END_LINE, 0, 0, 0)?;
-            say(to, words::TIME, p.rounds, p.passed, 0)
+impl<W: Write> Story<W> {
+    // ---- a moment
+
+    pub fn show(&mut self) -> io::Result<()> {
+        show(&mut self.to, &self.ends, Side::Desk)?;
+        show(&mut self.to, &self.ends, Side::Chip)
+    }
+
+    // ---- a stretch, or what is behind it
+
+    // Whether what the end got is what the other took first; outside of a stretch nothing is claimed of it.
+    fn is_same(&self, side: Side, got: usize, taken: usize) -> bool {
+        let delivered = self.book.of(side).delivered.first(got);
+        let others = self.book.of(side.other()).taken.first(got);
+        got <= taken && are_same(delivered, others)
+    }
+
+    // What the end got of what the other took.
+    fn tell_got(&mut self, part: Part, side: Side) -> io::Result<()> {
+        let sender = side.other();
+        let got = part.count(side).delivered;
+        let taken = part.count(sender).taken;
+        let is_same = self.is_same(side, got, taken);
+        let phase = part.stretch.phase;
+        let (before, behind) = words_of_got(phase, is_same);
+        let order = if is_same && 0 < got && is_promised(phase) {
+            ", each once and in order"
+        } else {
+            ""
+        };
+        writeln!(
+            self.to,
+            "{} got {got}{before}{taken}{behind}{}{order}",
+            The(side),
+            The(sender)
+        )?;
+        for packet in self.book.of(side).delivered.first(got) {
+            writeln!(self.to, "  {}", Quoted(packet.as_slice()))?;
         }
+        Ok(())
+    }
+
+    fn tell_part(&mut self, part: Part) -> io::Result<()> {
+        if let Some((before, behind)) = heading(part.stretch.phase) {
+            writeln!(self.to, "{before}{}{behind}", part.stretch.number)?;
+        }
+        self.tell_got(part, Side::Chip)?;
+        self.tell_got(part, Side::Desk)
+    }
+
+    // Tells what a stretch came to where a move has made an end of it, which takes and delivers nothing; and where another begins.
+    pub fn tell_turn(&mut self, before: Part) -> io::Result<()> {
+        let after = self.ends.stretch;
+        let is_other = before.stretch.number != after.number;
+        let is_over = is_other || after.phase == Phase::Outside;
+        if before.stretch.phase != Phase::Outside && is_over {
+            writeln!(
+                self.to,
+                "-- stretch {} is over: nothing is promised until the next begins",
+                before.stretch.number
+            )?;
+            self.tell_part(before)?;
+        }
+        if is_other {
+            writeln!(
+                self.to,
+                "-- stretch {} begins: both ends are fresh, and nothing is on its way",
+                after.number
+            )?;
+        }
+        Ok(())
+    }
+
+    // ---- the end
+
+    // Tells who got what, what is left, and how long it took; nothing where there is no pair.
+    pub fn tell_ending(&mut self) -> io::Result<()> {
+        if self.ends.stretch.phase == Phase::Unset {
+            return Ok(());
+        }
+        writeln!(self.to, "-- in the end")?;
+        let part = Part::of(&self.ends);
+        self.tell_part(part)?;
+        tell_rest(&mut self.to, &self.ends)
     }
 }

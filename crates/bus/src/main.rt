@@ -6,29 +6,24 @@ mod command;
 mod deeds;
 mod ending;
 mod reason;
+mod rounds;
 mod story;
-mod task;
 mod words;
 
-use book::BOOK;
-use ends::STORE;
 use std::io;
-use text::input::INPUT;
-use text::lines;
+use story::Story;
+use text::line::Lines;
+use text::page::Page;
 
 fn main(rt: HostRuntime) -> io::Result<()> {
     let mut source = rt.stdin();
-    let mut to = rt.stdout();
-    let mut input = [0u8; INPUT];
-    let mut store = [0u8; STORE];
-    let mut book = [0u8; BOOK];
-    let mut p = ends::nobody();
-    let mut reader = lines::beginning();
-    let mut turns = lines::TURNS;
-    while 0 < turns {
-        reader = lines::next(&mut source, &mut input, reader)?;
-        p = story::obey_line(&mut to, &input, reader, &mut store, &mut book, p)?;
-        turns = lines::turns_left(reader, turns);
+    let mut lines = Lines::new();
+    let mut story = Story::new(Page::new(rt.stdout()));
+    for number in 1..=u64::MAX {
+        let Some(line) = lines.next(&mut source)? else {
+            break;
+        };
+        story.obey(number, line)?;
     }
-    ending::tell(&mut to, &book, p)
+    story.tell_ending()
 }

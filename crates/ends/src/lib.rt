@@ -1,139 +1,169 @@
 // Two ends of the link, the desk and the chip, the frames on their way between them, and one clock. Nothing is told here: each move
-// returns what came of it as a small value. Nothing is required of a caller: an end's number that is not DESK is the chip's.
+// returns what came of it. Nothing is required of a caller.
 #![tactic(auto)]
 
+pub mod bytes;
+pub mod end;
 pub mod hearing;
-pub mod line;
 pub mod moves;
+mod queue;
 pub mod rounds;
 pub mod stretch;
 
-ghost use Rattle.std.specs.Prelude.{◌≤◌};
-
 use base::answer::DONE;
-use state::{Link, Settings};
-use stretch::UNSET;
+use end::End;
+use moves::{Call, Event, Move};
+pub use queue::PLACES;
+use state::Settings;
+use stretch::Stretch;
 
-pub const DESK: usize = 0;
-
-pub const CHIP: usize = 1;
-
-// Two slots of the longest packet, and more.
-const SLOTS: usize = 2048;
-
-pub const STORE: usize = 136450;
-
-// All bytes of the two ends and of what is between them: the desk's slots, the chip's, the frames on their way to the desk, those to the
-// chip, and a spare place. One store, in which an end has its offset, is lent to a move whichever end it is at.
-pub type Store = [u8; STORE];
-
-// first, queue: where in their ring the frames on their way to the end begin, and how many they are. taken, delivered: how many packets it
-// took and delivered since it was fresh. dropped: how many of all that it ever took a reset has dropped.
-#[derive(Clone, Copy)]
-pub struct End {
-    pub link: Link,
-    pub first: usize,
-    pub queue: usize,
-    pub taken: usize,
-    pub delivered: usize,
-    pub dropped: u64,
+#[derive(Clone, Copy, PartialEq, Eq)]
+pub enum Side {
+    Desk,
+    Chip,
 }
 
-// passed, rounds: the milliseconds and timer rounds since both ends started. stretches: how many have begun since then. phase: what is
-// promised, by the numbers of crate::stretch.
-#[derive(Clone, Copy)]
+impl Side {
+    ghost use Rattle.std.specs.Prelude.{◌≡◌};
+    ghost use Rattle.ends.specs.Sides.{other_side};
+
+    pub fn other(self) -> Side
+        ensures { result ≡ other_side self }
+    {
+        match self {
+            Side::Desk => Side::Chip,
+            Side::Chip => Side::Desk,
+        }
+    }
+}
+
+// passed, rounds: the milliseconds and timer rounds since both ends started.
+#[derive(Drop)]
 pub struct Ends {
     pub desk: End,
     pub chip: End,
+    pub stretch: Stretch,
     pub passed: u64,
     pub rounds: u64,
-    pub stretches: u64,
-    pub phase: usize,
     pub clock: u32,
 }
 
-// The number of the other end.
-pub fn other(end: usize) -> usize {
-    match end {
-        DESK => CHIP,
-        _ => DESK,
-    }
+// A call at one end; what it sends is on its way to the other.
+fn exchange(here: &mut End, there: &mut End, call: Call, ms: u32, packet: &[u8]) -> Event {
+    let mut event = here.call(call, ms, packet);
+    there.expect(&mut event);
+    event
 }
 
-// The end of that number.
-pub fn end_of(p: Ends, end: usize) -> End {
-    match end {
-        DESK => p.desk,
-        _ => p.chip,
-    }
-}
+impl Ends {
+    ghost use Rattle.std.specs.Prelude.{◌≡◌, ◌↔◌, IsSome};
+    ghost use Rattle.ends.specs.Sides.{end_at};
+    ghost use Rattle.ends.specs.Moves.{clock_after, IsCall};
+    ghost use Rattle.state.specs.Calls.{zeros, started};
 
-// The same clock, with these as the end of that number and as the other.
-fn with_both(p: Ends, end: usize, here: End, there: End) -> Ends {
-    let mut k = p;
-    match end {
-        DESK => {
-            k.desk = here;
-            k.chip = there;
-        }
-        _ => {
-            k.desk = there;
-            k.chip = here;
+    // Before any start: nothing is set, and every call answers so.
+    pub fn unset() -> Ends
+        ensures desk { result.desk.link ≡ zeros }
+        ensures chip { result.chip.link ≡ zeros }
+    {
+        Ends {
+            desk: End::unset(),
+            chip: End::unset(),
+            stretch: Stretch::unset(),
+            passed: 0,
+            rounds: 0,
+            clock: 0,
         }
     }
-    k
-}
 
-// Where the end's slots begin.
-fn slots_of(end: usize) -> usize
-    ensures { result ≤ 2048 }
-{
-    match end {
-        DESK => 0,
-        _ => SLOTS,
+    pub fn end(&self, side: Side) -> &End
+        ensures { result.now ≡ end_at side self.now }
+    {
+        match side {
+            Side::Desk => &self.desk,
+            Side::Chip => &self.chip,
+        }
     }
-}
 
-// ---- the start of both
-
-// What both ends answer, and the two of them.
-#[derive(Clone, Copy)]
-pub struct Started {
-    pub ends: Ends,
-    pub answer: u8,
-}
-
-// Two ends in one state, nothing on its way between them. phase: FIRST if they are fresh, else UNSET.
-fn new_ends(link: Link, clock: u32, phase: usize) -> Ends {
-    let e = End {
-        link,
-        first: 0,
-        queue: 0,
-        taken: 0,
-        delivered: 0,
-        dropped: 0,
-    };
-    Ends {
-        desk: e,
-        chip: e,
-        passed: 0,
-        rounds: 0,
-        stretches: phase as u64,
-        phase,
-        clock,
+    // Starts both ends with these settings, nothing on its way between them, and gives what both answer: where a setting is out of range
+    // they are zeros, and answer so to every call.
+    pub fn start(&mut self, s: Settings, clock: u32) -> u8
+        ensures desk { self.new.desk.link ≡ (started s 2048).state }
+        ensures chip { self.new.chip.link ≡ (started s 2048).state }
+        ensures answer { result ≡ (started s 2048).answer }
+        ensures clock { self.new.clock ≡ clock }
+    {
+        self.chip.start(s);
+        let answer = self.desk.start(s);
+        self.stretch = if answer == DONE {
+            Stretch::first()
+        } else {
+            Stretch::unset()
+        };
+        self.passed = 0;
+        self.rounds = 0;
+        self.clock = clock;
+        answer
     }
-}
 
-// The ends before any start: nothing is set, and every call answers so.
-pub fn nobody() -> Ends {
-    new_ends(state::zero_state(), 0, UNSET)
-}
+    // Behind a move, by which an end may have become fresh.
+    fn turn(&mut self, is_fresh: bool)
+        ensures { self.new.clock ≡ self.old.clock }
+    {
+        let are_ready = self.desk.is_ready() && self.chip.is_ready();
+        self.stretch.turn(is_fresh, are_ready);
+    }
 
-// Both ends started with these settings: where a setting is out of range they are zeros, and answer so to every call.
-pub fn start(s: Settings, clock: u32, store: &Store) -> Started {
-    let o = link::start(s, store);
-    Started {
-        ends: new_ends(o.state, clock, (o.answer == DONE) as usize),
-        answer: o.answer,
+    fn call(&mut self, side: Side, call: Call, packet: &[u8]) -> Event
+        ensures { self.new.clock ≡ self.old.clock }
+    {
+        let event = match side {
+            Side::Desk => exchange(&mut self.desk, &mut self.chip, call, self.clock, packet),
+            Side::Chip => exchange(&mut self.chip, &mut self.desk, call, self.clock, packet),
+        };
+        self.turn(event.is_fresh());
+        event
+    }
+
+    fn lose(&mut self, side: Side, n: usize)
+        ensures { self.new.clock ≡ self.old.clock }
+    {
+        match side {
+            Side::Desk => self.desk.lose(n),
+            Side::Chip => self.chip.lose(n),
+        }
+        self.turn(false);
+    }
+
+    fn damage(&mut self, side: Side, n: usize, bytes: &[u8])
+        ensures { self.new.clock ≡ self.old.clock }
+    {
+        let is_forged = match side {
+            Side::Desk => self.desk.damage(n, bytes),
+            Side::Chip => self.chip.damage(n, bytes),
+        };
+        if is_forged {
+            self.stretch.forge();
+        }
+    }
+
+    // Makes the move, and gives what came of it where it is a call. bytes: what a submit is handed, or what a damaged frame becomes; no
+    // other move reads them.
+    pub fn make(&mut self, m: Move, bytes: &[u8]) -> Option<Event>
+        ensures call { IsSome result ↔ IsCall self.old m }
+        ensures clock { self.new.clock ≡ clock_after self.old.clock m }
+    {
+        match m {
+            Move::Call(side, Call::Carry) if self.end(side).arriving().is_empty() => {}
+            Move::Call(side, call) => return Some(self.call(side, call, bytes)),
+            Move::Lose(side, n) => self.lose(side, n),
+            Move::Damage(side, n) => self.damage(side, n, bytes),
+            Move::Pass(ms) => {
+                self.clock = self.clock.wrapping_add(ms);
+                self.passed = self.passed.wrapping_add(u64::from(ms));
+            }
+            Move::Round => self.rounds = self.rounds.wrapping_add(1),
+        }
+        None
     }
 }

@@ -1,74 +1,99 @@
 // The timer round of R6.5, move by move.
-use crate::moves::{CARRY, LOOK, Move, OVER, PASS, ROUND, new};
-use crate::{CHIP, DESK, Ends};
-use state::Link;
+use crate::end::End;
+use crate::moves::{Call, Move};
+use crate::{Ends, Side};
 
 // R14.4: the most rounds until all is through.
 pub const PROMISED: u64 = 24;
 
-fn is_due(l: Link, ms: u32) -> bool {
-    (state::time_left(l, ms) == 0) & (l.lost == false)
-}
+impl End {
+    ghost use Rattle.std.specs.Prelude.{◌≡◌, ◌↔◌, IsTrue};
+    ghost use Rattle.state.specs.Timer.{time_left};
+    ghost use Rattle.ends.specs.Rounds.{IsSettled};
 
-fn next_look(p: Ends) -> Move {
-    match is_due(p.desk.link, p.clock) {
-        true => new(LOOK, DESK, 0),
-        false => match is_due(p.chip.link, p.clock) {
-            true => new(LOOK, CHIP, 0),
-            false => new(OVER, DESK, 0),
-        },
+    fn is_due(&self, ms: u32) -> bool
+        ensures { IsTrue result → time_left self.now.link ms ≡ 0 }
+    {
+        state::time_left(self.link, ms) == 0 && !self.link.lost
+    }
+
+    fn is_settled(&self) -> bool
+        ensures { IsTrue result ↔ IsSettled self.now }
+    {
+        self.arriving().is_empty() && self.link.waiting == 0 && !self.link.acking
     }
 }
 
-// How far off the first moment is at which a timer of either end is due; 0 where none runs.
-fn first_due(p: Ends) -> u32 {
-    let desk = state::time_left(p.desk.link, p.clock);
-    let chip = state::time_left(p.chip.link, p.clock);
-    let soonest = match desk < chip {
-        true => desk,
-        false => chip,
-    };
-    match soonest {
-        state::NO_TIMER => 0,
-        _ => soonest as u32,
+impl Ends {
+    ghost use Rattle.std.specs.Prelude.{◌≡◌, ◌↔◌, ◌||◌, IsTrue, IfSome};
+    ghost use Rattle.ends.specs.Rounds.{MayFollow, IsSettled};
+
+    fn next_look(&self) -> Option<Move>
+        ensures { IfSome result (MayFollow self.now) }
+    {
+        if self.desk.is_due(self.clock) {
+            return Some(Move::Call(Side::Desk, Call::Look));
+        }
+        if self.chip.is_due(self.clock) {
+            return Some(Move::Call(Side::Chip, Call::Look));
+        }
+        None
     }
-}
 
-fn next_timer(p: Ends, ms: u32) -> Move {
-    match ms {
-        0 => next_look(p),
-        _ => new(PASS, DESK, ms),
+    // How far off the first moment is at which a timer of either end is due, if one runs.
+    fn first_due(&self) -> Option<u32> {
+        let desk = state::time_left(self.desk.link, self.clock);
+        let chip = state::time_left(self.chip.link, self.clock);
+        match desk.min(chip) {
+            state::NO_TIMER => None,
+            soonest => Some(u32::from(soonest)),
+        }
     }
-}
 
-// From the longer queue, so that the other has room for what comes of it; when nothing is on its way any more, the clock.
-fn next_carry(p: Ends) -> Move {
-    match p.chip.queue < p.desk.queue {
-        true => new(CARRY, DESK, 0),
-        false => match p.chip.queue == 0 {
-            true => next_timer(p, first_due(p)),
-            false => new(CARRY, CHIP, 0),
-        },
+    fn next_timer(&self) -> Option<Move>
+        ensures { IfSome result (MayFollow self.now) }
+    {
+        match self.first_due() {
+            None | Some(0) => self.next_look(),
+            Some(ms) => Some(Move::Pass(ms)),
+        }
     }
-}
 
-// The next move of a round, behind one of that kind: what a look sends is the next round's to carry. OVER where the round is.
-pub fn next(p: Ends, last: usize) -> Move {
-    match last {
-        ROUND => next_carry(p),
-        CARRY => next_carry(p),
-        _ => next_look(p),
+    // From the longer queue, so that the other has room for what comes of it; when nothing is on its way any more, the clock.
+    fn next_carry(&self) -> Option<Move>
+        ensures { IfSome result (MayFollow self.now) }
+    {
+        let (desk, chip) = (self.desk.arriving().len(), self.chip.arriving().len());
+        if chip < desk {
+            return Some(Move::Call(Side::Desk, Call::Carry));
+        }
+        if 0 < chip {
+            return Some(Move::Call(Side::Chip, Call::Carry));
+        }
+        self.next_timer()
     }
-}
 
-// Whether a link is lost.
-pub fn is_lost(p: Ends) -> bool {
-    p.desk.link.lost | p.chip.link.lost
-}
+    // The next move of a round, behind that one: what a look sends is the next round's to carry. None where the round is over.
+    pub fn next_of_round(&self, last: Move) -> Option<Move>
+        ensures { IfSome result (MayFollow self.now) }
+    {
+        match last {
+            Move::Round | Move::Call(_, Call::Carry) => self.next_carry(),
+            _ => self.next_look(),
+        }
+    }
 
-// Whether nothing is on its way, nothing waits, and nothing is owed.
-pub fn is_settled(p: Ends) -> bool {
-    ((p.desk.queue | p.chip.queue) == 0)
-        & ((p.desk.link.waiting | p.chip.link.waiting) == 0)
-        & ((p.desk.link.acking | p.chip.link.acking) == false)
+    // Whether a link is lost.
+    pub fn is_lost(&self) -> bool
+        ensures { result ≡ (self.now.desk.link.lost || self.now.chip.link.lost) }
+    {
+        self.desk.link.lost || self.chip.link.lost
+    }
+
+    // Whether nothing is on its way, nothing waits, and nothing is owed.
+    pub fn is_settled(&self) -> bool
+        ensures { IsTrue result ↔ (IsSettled self.now.desk × IsSettled self.now.chip) }
+    {
+        self.desk.is_settled() && self.chip.is_settled()
+    }
 }
