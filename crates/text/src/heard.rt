@@ -1,8 +1,7 @@
 // The name of a frame, as an end hears it.
 use frame::{Format, Heard};
+use std::fmt;
 use std::fmt::Formatter;
-use std::io::Write;
-use std::{fmt, io};
 
 // What was heard: `data 0 ack 3`, `ack 0`, `nak 0`, `reset`, or which of steps 1 to 4 refuses.
 #[derive(Clone, Copy)]
@@ -48,14 +47,4 @@ impl fmt::Display for Frame<'_> {
             heard => write!(f, "{}", Name(heard)),
         }
     }
-}
-
-// Writes what was heard: `data 0 ack 3`, `ack 0`, `nak 0`, `reset`, or which of steps 1 to 4 refuses.
-pub fn write_heard(to: &mut impl Write, h: Heard) -> io::Result<()> {
-    write!(to, "{}", Name(h))
-}
-
-// Writes what an end with that format hears in the frame.
-pub fn write_frame(to: &mut impl Write, format: Format, frame: &[u8]) -> io::Result<()> {
-    write!(to, "{}", Frame(format, frame))
 }
