@@ -62,11 +62,8 @@ fn joining<'a>(fields: &mut Fields<'_>) -> Option<Command<'a>> {
     Some(Command::Joining(Joining { length, opened }))
 }
 
-fn read_command<'a>(
-    word: &[u8],
-    fields: &mut Fields<'_>,
-    room: &'a mut [u8],
-) -> Option<Command<'a>> {
+// What the word and the fields behind it ask for, if it is one of these.
+pub fn read<'a>(word: &[u8], fields: &mut Fields<'_>, room: &'a mut [u8]) -> Option<Command<'a>> {
     match word {
         b"join" => join(fields, room),
         b"cut" => cut(fields, room),
@@ -74,15 +71,6 @@ fn read_command<'a>(
         b"joining" => joining(fields),
         _ => None,
     }
-}
-
-// What the line asks for, if it is one of these.
-pub fn read<'a>(line: &[u8], room: &'a mut [u8]) -> Option<Command<'a>> {
-    let mut fields = Fields::of(line);
-    let word = fields.word()?;
-    let command = read_command(word, &mut fields, room)?;
-    fields.end()?;
-    Some(command)
 }
 
 impl Command<'_> {

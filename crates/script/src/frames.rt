@@ -27,17 +27,13 @@ fn checksum<'a>(fields: &mut Fields<'_>, room: &'a mut [u8]) -> Option<Command<'
     Some(Command::Checksum(fields.bytes(room)?))
 }
 
-// What the line asks for, if it is one of these.
-pub fn read<'a>(line: &[u8], room: &'a mut [u8]) -> Option<Command<'a>> {
-    let mut fields = Fields::of(line);
-    let word = fields.word()?;
-    let command = match word {
-        b"checksum" => checksum(&mut fields, room)?,
-        b"hear" => hear(&mut fields, room)?,
-        _ => return None,
-    };
-    fields.end()?;
-    Some(command)
+// What the word and the fields behind it ask for, if it is one of these.
+pub fn read<'a>(word: &[u8], fields: &mut Fields<'_>, room: &'a mut [u8]) -> Option<Command<'a>> {
+    match word {
+        b"checksum" => checksum(fields, room),
+        b"hear" => hear(fields, room),
+        _ => None,
+    }
 }
 
 fn write_heard(to: &mut impl Write, h: Heard) -> io::Result<()> {

@@ -23,6 +23,20 @@ fn flag(fields: &mut Fields<'_>) -> Option<bool> {
     Some(number == 1)
 }
 
+// What the line asks for, if it is one of the commands that are read.
+fn read<'a, C, R>(line: &[u8], room: &'a mut [u8], read_command: R) -> Option<C>
+where
+    C: Drop,
+    R: Fn(&[u8], &mut Fields<'_>, &'a mut [u8]) -> Option<C>,
+    requires { R.IsAlwaysCallable read_command }
+{
+    let mut fields = Fields::of(line);
+    let word = fields.word()?;
+    let command = read_command(word, &mut fields, room)?;
+    fields.end()?;
+    Some(command)
+}
+
 // What stands behind a line that is printed again: a call's is followed by what it gives.
 const ARROW: &[u8] = b" -> ";
 
@@ -56,16 +70,16 @@ impl Session {
     // A line of which one file makes no command is offered to the next.
     fn obey_text(&mut self, to: &mut impl Write, number: u64, line: &[u8]) -> io::Result<()> {
         let mut room = [0u8; MOST_BYTES];
-        if let Some(c) = linking::read(line, &mut room) {
+        if let Some(c) = read(line, &mut room, linking::read) {
             self.echo(to, line, c.behind())?;
             return self.end.obey(to, c, self.is_worked);
         }
-        if let Some(c) = chaining::read(line, &mut room) {
+        if let Some(c) = read(line, &mut room, chaining::read) {
             self.echo(to, line, c.behind())?;
             return self.joint.obey(to, c, self.is_worked);
         }
         if self.is_worked {
-            if let Some(c) = frames::read(line, &mut room) {
+            if let Some(c) = read(line, &mut room, frames::read) {
                 self.echo(to, line, ARROW)?;
                 return frames::obey(to, c);
             }
