@@ -1,5 +1,5 @@
 // Text for output.
-ghost use Rattle.std.specs.Prelude.{◌≡◌, ◌+◌, ◌<◌, ◌≤◌, OnOk, length};
+ghost use Rattle.std.specs.Prelude.{◌≡◌, ◌+◌, ◌≤◌, OnOk, length};
 ghost use Rattle.std.specs.Io.KnownBytes.{Keeps, Appends};
 
 use base::buffer::copy_at;
@@ -24,7 +24,8 @@ impl<W: Write> Page<W> {
     ghost use Rattle.text.specs.Page.{laid};
 
     pub fn new(to: W) -> Self
-        ensures { Keeps (W.contents to) (laid W.contents result) }
+        ensures to { result.to ≡ to }
+        ensures empty { result.length ≡ 0 }
     {
         Page {
             to,
@@ -42,10 +43,9 @@ impl<W: Write> Page<W> {
         Ok(())
     }
 
-    // Room for so many bytes; for more than a page holds, all of it.
     fn make_room(&mut self, count: usize) -> io::Result<()>
-        ensures room { OnOk result (count ≤ 8192 → self.new.length + count ≤ 8192) }
-        ensures empty { OnOk result (8192 < count → self.new.length ≡ 0) }
+        requires { count ≤ 8192 }
+        ensures room { OnOk result (self.new.length + count ≤ 8192) }
         ensures bytes { OnOk result (Keeps (laid W.contents self.old) (laid W.contents self.new)) }
     {
         if LINE - self.length < count {
@@ -80,10 +80,11 @@ impl<W: Write> Write for Page<W> {
     fn write_all(&mut self, text: &[u8]) -> io::Result<()>
         ensures bytes { OnOk result (Appends (laid W.contents self.old) (laid W.contents self.new) text.now) }
     {
-        self.make_room(text.len())?;
         if LINE < text.len() {
+            self.write_out()?;
             return self.to.write_all(text);
         }
+        self.make_room(text.len())?;
         self.lay(text);
         if text.ends_with(b"\n") {
             return self.write_out();

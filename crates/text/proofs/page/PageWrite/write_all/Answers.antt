@@ -13,6 +13,6 @@ passed (Err e) a b c waiting text kept none took = tt
 
 pub returns-then-text-gt-LINE : goal.returns-then-text-gt-LINE
 returns-then-text-gt-LINE g c =
-    let room = c.in_ok-make_room.ensures in
-    let none = ap (λ n. take n c.make_room.new.self.line) (room.empty c.if-text-gt-LINE.true) in
-    record { bytes = passed c.write_all.result _ _ _ _ _ room.bytes none c.write_all.ensures.bytes }
+    let written = c.in_ok-write_out.ensures in
+    let none = ap (λ n. take n c.write_out.new.self.line) written.empty in
+    record { bytes = passed c.write_all.result _ _ _ _ _ written.bytes none c.write_all.ensures.bytes }
