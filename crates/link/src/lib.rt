@@ -1,8 +1,6 @@
 // An end of the link: the six calls of R1.3, each with all that it promises. None of them requires anything.
 #![tactic(auto)]
 
-pub mod chosen;
-
 ghost use Rattle.std.specs.Prelude.{◌≡◌, length};
 ghost use Rattle.state.specs.Gate.{after};
 ghost use Rattle.state.specs.Calls.{started, resynchronised};
