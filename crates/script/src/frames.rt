@@ -1,4 +1,5 @@
 // The commands of worked lines only, on a frame's bytes: their words, their fields, what they do and what they print.
+use base::answer;
 use frame::{Format, Heard};
 use std::io;
 use std::io::Write;
@@ -37,7 +38,8 @@ pub fn read<'a>(word: &[u8], fields: &mut Fields<'_>, room: &'a mut [u8]) -> Opt
 }
 
 fn write_heard(to: &mut impl Write, h: Heard) -> io::Result<()> {
-    write!(to, "{} {}", frame::refusal(h), heard::Name(h))?;
+    let answer = answer::told(frame::refusal(h));
+    write!(to, "{answer} {}", heard::Name(h))?;
     match h {
         Heard::Data { length, .. } => writeln!(to, ", {length} bytes"),
         _ => writeln!(to),
