@@ -3,7 +3,6 @@ use crate::ending::Part;
 use crate::reason::Answer;
 use crate::story::Story;
 use crate::words::{Does, The};
-use base::answer::DONE;
 use ends::bytes::LONGEST;
 use ends::hearing::Hearing;
 use ends::moves::{Call, Event, Move};
@@ -132,7 +131,7 @@ impl<W: Write> Story<W> {
     fn keep(&mut self, side: Side, call: Call, event: &Event, before: Part, packet: &[u8]) {
         let count = before.count(side);
         let shelves = self.book.of_mut(side);
-        if call == Call::Submit && event.answer == DONE {
+        if call == Call::Submit && event.refusal.is_none() {
             shelves.taken.put(count.taken, packet);
         }
         if let Some(packet) = &event.delivered {

@@ -1,5 +1,5 @@
 // Why a call refuses. Where R8 has one number for several reasons, the one that is true is told.
-use base::answer;
+use base::answer::Refusal;
 use ends::hearing::Hearing;
 use ends::moves::Event;
 use state::Settings;
@@ -27,7 +27,7 @@ fn refusal_words(heard: Hearing) -> &'static str {
     }
 }
 
-// What a call answers, if it is not 0, and why. size: how many bytes a submit was handed.
+// What a call answers that refuses, and why. size: how many bytes a submit was handed.
 #[derive(Clone, Copy)]
 pub struct Answer<'a> {
     pub event: &'a Event,
@@ -37,15 +37,15 @@ pub struct Answer<'a> {
 
 impl Answer<'_> {
     // Where no number belongs to it.
-    fn reason(&self) -> &'static str {
-        match self.event.answer {
-            answer::OUT_OF_RANGE => " (no pair has started: D is 0, not 16 to 1024)",
-            answer::LINK_LOST if self.event.was_lost => " (link lost before)",
-            answer::LINK_LOST => " (link lost now)",
-            answer::WINDOW_FULL => " (window full)",
-            answer::UNUSED_CODE => " (unused code)",
-            answer::UNEXPECTED => " (not the expected number)",
-            answer::FRAME_SUM | answer::CONTROL_SIZE | answer::FRAME_LENGTH => {
+    fn reason(&self, refusal: Refusal) -> &'static str {
+        match refusal {
+            Refusal::OutOfRange => " (no pair has started: D is 0, not 16 to 1024)",
+            Refusal::LinkLost if self.event.was_lost => " (link lost before)",
+            Refusal::LinkLost => " (link lost now)",
+            Refusal::WindowFull => " (window full)",
+            Refusal::UnusedCode => " (unused code)",
+            Refusal::Unexpected => " (not the expected number)",
+            Refusal::FrameSum | Refusal::ControlSize | Refusal::FrameLength => {
                 refusal_words(self.event.heard)
             }
             _ => "",
@@ -55,20 +55,23 @@ impl Answer<'_> {
 
 impl fmt::Display for Answer<'_> {
     fn fmt<W: fmt::Write>(&self, f: &mut Formatter<W>) -> fmt::Result {
+        let Some(refusal) = self.event.refusal else {
+            return Ok(());
+        };
+        let number = refusal.number();
         let limit = state::limit(self.settings);
-        match self.event.answer {
-            answer::DONE => Ok(()),
-            answer::PACKET_SIZE => write!(
+        match refusal {
+            Refusal::PacketSize => write!(
                 f,
-                ", answers {} (a packet of {} bytes, not 1 to {limit})",
-                self.event.answer, self.size
+                ", answers {number} (a packet of {} bytes, not 1 to {limit})",
+                self.size
             ),
-            answer::FRAME_SIZE => write!(
+            Refusal::FrameSize => write!(
                 f,
-                ", answers {} (size: not 5 to {} bytes)",
-                self.event.answer, self.settings.format.d
+                ", answers {number} (size: not 5 to {} bytes)",
+                self.settings.format.d
             ),
-            answer => write!(f, ", answers {answer}{}", self.reason()),
+            _ => write!(f, ", answers {number}{}", self.reason(refusal)),
         }
     }
 }

@@ -3,6 +3,7 @@ use crate::book::Book;
 use crate::command;
 use crate::command::Command;
 use crate::reason::Ranges;
+use base::answer::DONE;
 use ends::Ends;
 use ends::moves::{Call, Move};
 use state::Settings;
@@ -40,9 +41,10 @@ impl<W: Write> Story<W> {
 
     fn tell_start(&mut self, s: Settings, answer: u8) -> io::Result<()> {
         write!(self.to, "[{}] the desk and the chip ", self.ends.clock)?;
-        match answer {
-            0 => write!(self.to, "start")?,
-            _ => write!(self.to, "answer {answer} and do NOT start")?,
+        if answer == DONE {
+            write!(self.to, "start")?;
+        } else {
+            write!(self.to, "answer {answer} and do NOT start")?;
         }
         write!(
             self.to,

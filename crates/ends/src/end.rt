@@ -3,7 +3,7 @@ use crate::bytes::{Bytes, LONGEST};
 use crate::hearing::Hearing;
 use crate::moves::{Call, Event};
 use crate::queue::Queue;
-use base::answer::DONE;
+use base::answer::{DONE, Refusal};
 use base::buffer::part;
 use state::{Link, Outcome, Settings};
 
@@ -127,7 +127,7 @@ impl End {
             delivered: some_of(self.next_frame(), 3, o.delivered),
             sent: some_of(frame, 0, o.sent),
             heard: self.hearing(call),
-            answer: o.answer,
+            refusal: Refusal::try_from(o.answer).ok(),
             freed: freed(self.link.waiting, took, o),
             dropped: o.dropped,
             is_crowded: false,
@@ -141,7 +141,7 @@ impl End {
             self.count = NONE;
             return;
         }
-        if call == Call::Submit && event.answer == DONE {
+        if call == Call::Submit && event.refusal.is_none() {
             self.count.taken = self.count.taken.wrapping_add(1);
         }
         if event.delivered.is_some() {

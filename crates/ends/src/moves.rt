@@ -2,7 +2,7 @@
 use crate::Side;
 use crate::bytes::Bytes;
 use crate::hearing::Hearing;
-use base::answer::DONE;
+use base::answer::Refusal;
 
 #[derive(Clone, Copy, PartialEq, Eq)]
 pub enum Call {
@@ -27,15 +27,15 @@ pub enum Move {
     Round,
 }
 
-// What came of a call. freed, dropped: how many packets wait no more because they were acknowledged, and because of a reset. is_crowded:
-// what was sent is lost, since 64 frames are on their way already. heard: what was heard in the frame that was carried; of a resynchronise
-// a reset. was_lost: the link was lost before.
+// What came of a call. refusal: why it was not carried out, if it was not. freed, dropped: how many packets wait no more because they were
+// acknowledged, and because of a reset. is_crowded: what was sent is lost, since 64 frames are on their way already. heard: what was heard in
+// the frame that was carried; of a resynchronise a reset. was_lost: the link was lost before.
 #[derive(Clone, Copy)]
 pub struct Event {
     pub delivered: Option<Bytes>,
     pub sent: Option<Bytes>,
     pub heard: Hearing,
-    pub answer: u8,
+    pub refusal: Option<Refusal>,
     pub freed: u8,
     pub dropped: u8,
     pub is_crowded: bool,
@@ -45,6 +45,6 @@ pub struct Event {
 impl Event {
     // Whether the call made its end fresh.
     pub(crate) fn is_fresh(&self) -> bool {
-        self.heard == Hearing::Reset && self.answer == DONE
+        self.heard == Hearing::Reset && self.refusal.is_none()
     }
 }
