@@ -13,8 +13,8 @@ use text::page::Page;
 use turn::{End, Incoming};
 
 // Two packets.
-const LOAN: [u8; 300] =
-    *b"loan 4711: Moby-Dick; or, The Whale, by Herman Melville, shelf 813, copy 2, to reader 52, from desk 1. \
+const LOAN: &[u8] =
+    b"loan 4711: Moby-Dick; or, The Whale, by Herman Melville, shelf 813, copy 2, to reader 52, from desk 1. \
     Lent on 2 May at 9:14 and due on 30 May; twice as long if nobody else asks for it. \
     When lent, the spine was worn, page 135 was loose, and the map was in the pocket of its back cover, folded in two.";
 
@@ -54,7 +54,7 @@ fn tell_joined(to: &mut impl Write, ms: u32, j: Joined, room: &[u8]) -> io::Resu
     if length == 0 {
         return Ok(());
     }
-    if part(room, 0, usize::from(length)) == LOAN.as_slice() {
+    if part(room, 0, usize::from(length)) == LOAN {
         return writeln!(
             to,
             "[{ms}] the chip has the loan, {length} bytes, as it was sent"
@@ -83,7 +83,7 @@ fn main(rt: HostRuntime) -> io::Result<()> {
         tell_joined(&mut page, ms, joined, &incoming.room)?;
         let to_desk = carried(&mut page, chip.sent(), ms)?;
         ms = ms.wrapping_add(10);
-        desk.serve(ms, to_desk, &LOAN, false);
+        desk.serve(ms, to_desk, LOAN, false);
     }
     Ok(())
 }

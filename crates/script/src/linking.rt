@@ -39,26 +39,25 @@ fn start<'a>(fields: &mut Fields<'_>) -> Option<Call<'a>> {
     Some(Call::Start(s))
 }
 
-// MS PACKET
-fn submit<'a>(fields: &mut Fields<'_>, room: &'a mut [u8]) -> Option<Call<'a>> {
+// MS PACKET, MS FRAME
+fn timed<'a>(fields: &mut Fields<'_>, room: &'a mut [u8]) -> Option<(u32, &'a [u8])> {
     let ms = fields.number()?;
-    let packet = fields.bytes(room)?;
-    Some(Call::Submit { ms, packet })
-}
-
-// MS FRAME
-fn take<'a>(fields: &mut Fields<'_>, room: &'a mut [u8]) -> Option<Call<'a>> {
-    let ms = fields.number()?;
-    let frame = fields.bytes(room)?;
-    Some(Call::Take { ms, frame })
+    let bytes = fields.bytes(room)?;
+    Some((ms, bytes))
 }
 
 // Of the others MS
 fn read_call<'a>(word: &[u8], fields: &mut Fields<'_>, room: &'a mut [u8]) -> Option<Call<'a>> {
     match word {
         b"start" => start(fields),
-        b"submit" => submit(fields, room),
-        b"take" => take(fields, room),
+        b"submit" => {
+            let (ms, packet) = timed(fields, room)?;
+            Some(Call::Submit { ms, packet })
+        }
+        b"take" => {
+            let (ms, frame) = timed(fields, room)?;
+            Some(Call::Take { ms, frame })
+        }
         b"look" => Some(Call::Look {
             ms: fields.number()?,
         }),
