@@ -191,6 +191,7 @@ fn seal(format: Format, frame: &mut [u8], covered: usize) -> u16
 }
 
 // All of a frame but its FCS.
+#[tactic(auto, using(crate::proofs::Writing::body_put))]
 fn write_body(frame: &mut [u8], fctr: u8, packet: &[u8])
     requires { (length packet.now + 3 ≤ length frame.old) × (length packet.now < 65536) }
     ensures { frame.new ≡ put frame.old 0 (fctr ∷ (len_bytes (length packet.now) ++ packet.now)) }
