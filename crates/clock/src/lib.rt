@@ -8,6 +8,7 @@ ghost use Rattle.state.specs.Gate.{after, gate_of};
 ghost use Rattle.state.specs.Formed.{Usable};
 ghost use Rattle.clock.specs.Look.{after_oldest, exhausted, served, acknowledged_if, looked_newer, looked_open, looked, acknowledged_now};
 
+use base::answer;
 use base::answer::Refusal;
 use state::{Link, Outcome};
 
@@ -30,7 +31,7 @@ fn lose(l: Link, slots: &[u8], frame: &mut [u8]) -> Outcome
     requires { 5 ≤ length frame.old }
     ensures { after result slots.now frame.new ≡ exhausted l slots.now frame.old }
 {
-    state::answer_only(Link { lost: true, ..l }, Err(Refusal::LinkLost))
+    state::answer_only(Link { lost: true, ..l }, Refusal::LinkLost.number())
 }
 
 // R6.3: serves the packet that n were sent after.
@@ -41,7 +42,7 @@ fn serve(l: Link, slots: &[u8], frame: &mut [u8], ms: u32, n: u8) -> Outcome
     let number = state::sent_before(l, n);
     if send::may_repeat(l, number) {
         let sent = send::repeat(l, slots, frame, ms, number);
-        return send::conclude(sent, Ok(()), 0);
+        return send::conclude(sent, answer::DONE, 0);
     }
     lose(l, slots, frame)
 }
@@ -54,9 +55,9 @@ fn acknowledge_if(l: Link, slots: &[u8], frame: &mut [u8], owed: bool) -> Outcom
 {
     if owed {
         let sent = send::send_ack(l, frame);
-        return send::conclude(sent, Ok(()), 0);
+        return send::conclude(sent, answer::DONE, 0);
     }
-    state::answer_only(l, Ok(()))
+    state::answer_only(l, answer::DONE)
 }
 
 fn look_newer(l: Link, slots: &[u8], frame: &mut [u8], ms: u32) -> Outcome
@@ -88,7 +89,7 @@ pub fn look(l: Link, slots: &[u8], frame: &mut [u8], ms: u32) -> Looked
 {
     let outcome = match state::gate(l, slots.len(), frame.len()) {
         Ok(()) => look_open(l, slots, frame, ms),
-        Err(refusal) => state::answer_only(l, Err(refusal)),
+        Err(refusal) => state::answer_only(l, refusal.number()),
     };
     Looked { outcome }
 }
@@ -100,6 +101,6 @@ pub fn acknowledge(l: Link, slots: &[u8], frame: &mut [u8], _ms: u32) -> Outcome
 {
     match state::gate(l, slots.len(), frame.len()) {
         Ok(()) => acknowledge_if(l, slots, frame, l.acking),
-        Err(refusal) => state::answer_only(l, Err(refusal)),
+        Err(refusal) => state::answer_only(l, refusal.number()),
     }
 }

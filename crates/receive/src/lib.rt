@@ -11,6 +11,7 @@ ghost use Rattle.send.specs.Repeat.{Ready};
 ghost use Rattle.receive.specs.Steps.{freed, repeatable, after_step6, after_delivery};
 ghost use Rattle.receive.specs.Take.{refused_with_nak, repeated_or, nak_obeyed, data_delivered, data_passed, data_taken, obeyed, frame_taken};
 
+use base::answer;
 use base::answer::Refusal;
 use frame::Heard;
 use send::Sent;
@@ -36,7 +37,7 @@ fn is_repeatable(l: Link, number: u8) -> bool
     ensures { result ≡ repeatable l number }
 {
     let behind = state::behind_number(l, number);
-    (behind < l.waiting) & send::may_repeat(l, number)
+    behind < l.waiting && send::may_repeat(l, number)
 }
 
 fn obey_acknowledgement(l: Link, nak: bool, number: u8) -> Link
@@ -82,7 +83,7 @@ fn deliver_data(
             sent: 0,
         }
     };
-    send::conclude(sent, Ok(()), len)
+    send::conclude(sent, answer::DONE, len)
 }
 
 fn pass_data(
@@ -101,7 +102,7 @@ fn pass_data(
     } else {
         send::send_ack(sixth, frame)
     };
-    send::conclude(sent, Err(Refusal::Unexpected), 0)
+    send::conclude(sent, Refusal::Unexpected.number(), 0)
 }
 
 #[tactic(auto, unfolding(crate::specs::Take::data_taken))]
@@ -134,7 +135,7 @@ fn refuse(l: Link, slots: &[u8], frame: &mut [u8], h: Heard) -> Outcome
     ensures { after result slots.now frame.new ≡ refused_with_nak l slots.now frame.old h }
 {
     let sent = send::send_nak(l, frame);
-    send::conclude(sent, frame::refusal(h), 0)
+    send::conclude(sent, answer::told(frame::refusal(h)), 0)
 }
 
 fn obey_nak(l: Link, slots: &[u8], frame: &mut [u8], ms: u32, number: u8) -> Outcome
@@ -143,9 +144,9 @@ fn obey_nak(l: Link, slots: &[u8], frame: &mut [u8], ms: u32, number: u8) -> Out
 {
     if is_repeatable(l, number) {
         let sent = send::repeat(l, slots, frame, ms, number);
-        return send::conclude(sent, Ok(()), 0);
+        return send::conclude(sent, answer::DONE, 0);
     }
-    state::answer_only(l, Ok(()))
+    state::answer_only(l, answer::DONE)
 }
 
 #[tactic(auto, unfolding(crate::specs::Take::obeyed))]
@@ -155,9 +156,9 @@ fn obey(l: Link, slots: &[u8], frame: &mut [u8], ms: u32, h: Heard) -> Outcome
 {
     match h {
         Heard::Size | Heard::Sum | Heard::Code | Heard::Length => refuse(l, slots, frame, h),
-        Heard::ControlSize => state::answer_only(l, frame::refusal(h)),
+        Heard::ControlSize => state::answer_only(l, answer::told(frame::refusal(h))),
         Heard::Reset => state::become_fresh(l, 0),
-        Heard::Ack(number) => state::answer_only(free(l, number), Ok(())),
+        Heard::Ack(number) => state::answer_only(free(l, number), answer::DONE),
         Heard::Nak(number) => obey_nak(l, slots, frame, ms, number),
         Heard::Data {
             number,
@@ -181,6 +182,6 @@ pub fn take(l: Link, slots: &[u8], frame: &mut [u8], ms: u32, received: &[u8]) -
             ms,
             frame::hear(l.settings.format, received),
         ),
-        Err(refusal) => state::answer_only(l, Err(refusal)),
+        Err(refusal) => state::answer_only(l, refusal.number()),
     }
 }

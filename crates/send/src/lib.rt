@@ -27,15 +27,13 @@ pub struct Sent {
 }
 
 // What a call tells whose frame, if any, was made by a maker below: no packet is dropped.
-pub fn conclude(s: Sent, outcome: Result<(), Refusal>, delivered: u16) -> Outcome
-    ensures { result ≡ record { state = s.state; sent = s.sent; delivered = delivered; dropped = 0; answer = answer_of outcome } }
+pub fn conclude(s: Sent, answer: u8, delivered: u16) -> Outcome
+    ensures { result ≡ record { state = s.state; sent = s.sent; delivered = delivered; dropped = 0; answer = answer } }
 {
     Outcome {
-        state: s.state,
         sent: s.sent,
         delivered,
-        answer: answer::told(outcome),
-        dropped: 0,
+        ..state::answer_only(s.state, answer)
     }
 }
 
@@ -177,7 +175,7 @@ fn accept(l: Link, slots: &mut [u8], frame: &mut [u8], ms: u32, packet: &[u8]) -
     store(place, slots, packet);
     let sent = write_first(l, frame, packet);
     let state = send_first(place, ms, packet.len() as u16);
-    conclude(Sent { state, sent }, Ok(()), 0)
+    conclude(Sent { state, sent }, answer::DONE, 0)
 }
 
 // Takes a packet, if nothing stands against it, and sends its frame.
@@ -187,6 +185,6 @@ pub fn submit(l: Link, slots: &mut [u8], frame: &mut [u8], ms: u32, packet: &[u8
 {
     match submit_gate(l, slots.len(), frame.len(), packet.len()) {
         Ok(()) => accept(l, slots, frame, ms, packet),
-        Err(refusal) => state::answer_only(l, Err(refusal)),
+        Err(refusal) => state::answer_only(l, refusal.number()),
     }
 }

@@ -85,14 +85,14 @@ pub fn slot_of(l: Link, number: u8) -> usize
     requires { 1 ≤ l.settings.window }
     ensures { (result ≡ slot_of l number) × (result < l.settings.window) }
 {
-    (number % l.settings.window) as usize
+    usize::from(number % l.settings.window)
 }
 
 // m (R2.2), and 0 where D is less than 5.
 pub fn limit(s: Settings) -> usize
     ensures { result ≡ limit_of s }
 {
-    s.format.d.saturating_sub(5) as usize
+    usize::from(s.format.d.saturating_sub(5))
 }
 
 // ---- well formed
@@ -101,12 +101,12 @@ pub fn limit(s: Settings) -> usize
 fn in_range(s: Settings) -> bool
     ensures { result ≡ in_range s }
 {
-    ((16 <= s.format.d) & (s.format.d <= 1024))
-        & ((1 <= s.window) & (s.window <= 2))
-        & ((2 <= s.transtimeout) & (s.transtimeout <= 1000))
-        & ((1 <= s.acktimeout) & (s.acktimeout < s.transtimeout))
-        & ((1 <= s.repeats) & (s.repeats <= 4))
-        & (s.format.order <= frame::HIGH_FIRST)
+    (16..=1024).contains(&s.format.d)
+        && (1..=2).contains(&s.window)
+        && (2..=1000).contains(&s.transtimeout)
+        && (1..s.transtimeout).contains(&s.acktimeout)
+        && (1..=4).contains(&s.repeats)
+        && s.format.order <= frame::HIGH_FIRST
 }
 
 fn length_ok(l: Link, number: u8) -> bool
@@ -114,8 +114,7 @@ fn length_ok(l: Link, number: u8) -> bool
     ensures { result ≡ length_ok l number }
 {
     let slot = slot_of(l, number);
-    let length = l.lengths[slot] as usize;
-    (1 <= length) & (length <= limit(l.settings))
+    (1..=limit(l.settings)).contains(&usize::from(l.lengths[slot]))
 }
 
 #[tactic(auto, unfolding(crate::specs::State::numbers_ok))]
@@ -123,15 +122,13 @@ fn numbers_ok(l: Link) -> bool
     requires { (1 ≤ l.settings.window) × (l.settings.window ≤ 2) }
     ensures { result ≡ numbers_ok l }
 {
-    let newest = length_ok(l, sent_before(l, 0));
-    let older = length_ok(l, sent_before(l, 1));
-    (l.next <= 3)
-        & (l.expected <= 3)
-        & (l.waiting <= l.settings.window)
-        & ((l.waiting < 1) | newest)
-        & ((l.waiting < 2) | older)
-        & (l.repeated[0] <= l.settings.repeats)
-        & (l.repeated[1] <= l.settings.repeats)
+    l.next <= 3
+        && l.expected <= 3
+        && l.waiting <= l.settings.window
+        && (l.waiting < 1 || length_ok(l, sent_before(l, 0)))
+        && (l.waiting < 2 || length_ok(l, sent_before(l, 1)))
+        && l.repeated[0] <= l.settings.repeats
+        && l.repeated[1] <= l.settings.repeats
 }
 
 // The settings are tested first: nothing of the rest is looked up by a window out of range.
@@ -145,14 +142,14 @@ fn well_formed(l: Link) -> bool
 // ---- the gate
 
 // An answer with a state, and nothing else told.
-pub fn answer_only(l: Link, outcome: Result<(), Refusal>) -> Outcome
-    ensures { result ≡ only l (answer_of outcome) }
+pub fn answer_only(l: Link, answer: u8) -> Outcome
+    ensures { result ≡ only l answer }
 {
     Outcome {
         state: l,
         sent: 0,
         delivered: 0,
-        answer: answer::told(outcome),
+        answer,
         dropped: 0,
     }
 }
@@ -161,7 +158,7 @@ fn slots_need(s: Settings) -> usize
     requires { (s.format.d ≤ 1024) × (s.window ≤ 2) }
     ensures { result ≡ slots_need s }
 {
-    (s.window as usize) * limit(s)
+    usize::from(s.window) * limit(s)
 }
 
 #[tactic(auto, unfolding(crate::specs::Gate::entry_of))]
@@ -171,7 +168,7 @@ fn entry(l: Link, slots: usize, frame: usize) -> Result<(), Refusal>
     if !well_formed(l) {
         return Err(Refusal::OutOfRange);
     }
-    if (slots < slots_need(l.settings)) | (frame < l.settings.format.d as usize) {
+    if slots < slots_need(l.settings) || frame < usize::from(l.settings.format.d) {
         return Err(Refusal::ShortBuffer);
     }
     Ok(())
@@ -212,13 +209,10 @@ fn renew(l: Link) -> Link
 pub fn become_fresh(l: Link, sent: u16) -> Outcome
     ensures { result ≡ became_fresh l sent }
 {
-    let state = renew(l);
     Outcome {
-        state,
         sent,
-        delivered: 0,
-        answer: answer::DONE,
         dropped: l.waiting,
+        ..answer_only(renew(l), answer::DONE)
     }
 }
 
@@ -252,14 +246,14 @@ pub fn is_packet_due(l: Link, n: u8, ms: u32) -> bool
     requires { (n ≤ 3) × (1 ≤ l.settings.window) × (l.settings.window ≤ 2) }
     ensures { result ≡ packet_due l n ms }
 {
-    (n < l.waiting) & (left_of(l.settings.transtimeout, start_of(l, n), ms) == 0)
+    n < l.waiting && left_of(l.settings.transtimeout, start_of(l, n), ms) == 0
 }
 
 // Whether the acknowledge timer is due; a stopped one is not.
 pub fn is_acknowledge_due(l: Link, ms: u32) -> bool
     ensures { result ≡ acknowledge_due l ms }
 {
-    l.acking & (left_of(l.settings.acktimeout, l.ackstart, ms) == 0)
+    l.acking && left_of(l.settings.acktimeout, l.ackstart, ms) == 0
 }
 
 // What time_left gives where no timer runs.
@@ -314,12 +308,12 @@ pub fn start(s: Settings, slots: &[u8]) -> Outcome
     ensures { result ≡ started s (length slots.now) }
 {
     if !in_range(s) {
-        return answer_only(zero_state(), Err(Refusal::OutOfRange));
+        return answer_only(zero_state(), Refusal::OutOfRange.number());
     }
     if slots.len() < slots_need(s) {
-        return answer_only(zero_state(), Err(Refusal::ShortBuffer));
+        return answer_only(zero_state(), Refusal::ShortBuffer.number());
     }
-    answer_only(fresh(s), Ok(()))
+    answer_only(fresh(s), answer::DONE)
 }
 
 fn send_reset(l: Link, slots: &[u8], frame: &mut [u8]) -> Outcome
@@ -337,6 +331,6 @@ pub fn resynchronise(l: Link, slots: &[u8], frame: &mut [u8], _ms: u32) -> Outco
 {
     match entry(l, slots.len(), frame.len()) {
         Ok(()) => send_reset(l, slots, frame),
-        Err(refusal) => answer_only(l, Err(refusal)),
+        Err(refusal) => answer_only(l, refusal.number()),
     }
 }
