@@ -1,4 +1,5 @@
 pub mod Pctr
+pub mod Packet
 pub mod Cut
 pub mod Join
 pub mod Promises

@@ -5,6 +5,7 @@ ghost use Rattle.std.specs.Prelude.{◌≡◌, ◌∷◌, ◌+◌, ◌≤◌, �
 ghost use Rattle.base.specs.Answer.{number_of, answer_of};
 ghost use Rattle.base.specs.Buffer.{put};
 ghost use Rattle.chain.specs.Pctr.{chain_of, bits_of};
+ghost use Rattle.chain.specs.Packet.{bytes_of};
 ghost use Rattle.chain.specs.Cut.{packet_count, message_gate, cut_gate, cutting, given, cut_out};
 ghost use Rattle.chain.specs.Join.{fresh_joining, closed, grown, joins, drops_chain, fault_of, refusal, packet_gate, join_gate, faulty, place_of, total_of, chain_gate, part_told, part_added, part_joined, joined};
 
@@ -191,7 +192,7 @@ fn refuse(channel: Channel, j: Joining, why: Refusal) -> Joined
 #[tactic(auto, unfolding(crate::specs::Join::packet_gate))]
 fn packet_gate<'a>(limit: Limit, bytes: &'a [u8]) -> Result<Packet<'a>, Refusal>
     ensures order { answer_of result ≡ packet_gate limit.m bytes.now }
-    ensures same { IfOk result (λ packet. packet ≡ bytes.now) }
+    ensures same { IfOk result (λ packet. bytes_of packet ≡ bytes.now) }
 {
     let packet = Packet::new(limit, bytes)?;
     if !packet.is_of(Channel::ONLY) {
@@ -208,7 +209,7 @@ fn join_gate<'a>(
     room: usize,
 ) -> Result<(Limit, Packet<'a>), Refusal>
     ensures order { answer_of result ≡ join_gate m j bytes.now room }
-    ensures same { IfOk result (λ p. (p.0.m ≡ m) × (p.1 ≡ bytes.now)) }
+    ensures same { IfOk result (λ p. (p.0.m ≡ m) × (bytes_of p.1 ≡ bytes.now)) }
 {
     let limit = Limit::new(m)?;
     if LONGEST < usize::from(j.length) {
@@ -238,8 +239,8 @@ fn is_faulty(limit: Limit, opened: bool, chain: Chain, size: usize) -> bool
 
 #[tactic(auto, using(crate::proofs::Chains::other_bits_refused), unfolding(crate::specs::Join::chain_gate))]
 fn chain_gate(limit: Limit, j: Joining, packet: &Packet) -> Result<Chain, Refusal>
-    ensures order { answer_of result ≡ chain_gate limit.m j (get_or packet.now 0 0) (length packet.now) }
-    ensures same { IfOk result (λ chain. bits_of chain ≡ chain_of (get_or packet.now 0 0)) }
+    ensures order { answer_of result ≡ chain_gate limit.m j (get_or (bytes_of packet.now) 0 0) (length (bytes_of packet.now)) }
+    ensures same { IfOk result (λ chain. bits_of chain ≡ chain_of (get_or (bytes_of packet.now) 0 0)) }
 {
     let size = packet.size();
     match packet.chain()? {
@@ -252,8 +253,8 @@ fn chain_gate(limit: Limit, j: Joining, packet: &Packet) -> Result<Chain, Refusa
 }
 
 fn tell(j: Joining, packet: &Packet, chain: Chain) -> Joined
-    requires { total_of j (bits_of chain) (length packet.now) ≤ 4096 }
-    ensures { result ≡ part_told j (bits_of chain) (length packet.now) }
+    requires { total_of j (bits_of chain) (length (bytes_of packet.now)) ≤ 4096 }
+    ensures { result ≡ part_told j (bits_of chain) (length (bytes_of packet.now)) }
 {
     let total = (j.place_of(chain) + packet.part().len()) as u16;
     let (state, length) = if chain.finishes() {
@@ -270,8 +271,8 @@ fn tell(j: Joining, packet: &Packet, chain: Chain) -> Joined
 }
 
 fn add_part(j: Joining, packet: &Packet, chain: Chain, room: &mut [u8]) -> Joined
-    requires { (total_of j (bits_of chain) (length packet.now) ≤ 4096) × (4096 ≤ length room.old) }
-    ensures { joins result room.new ≡ part_added j packet.now (bits_of chain) room.old }
+    requires { (total_of j (bits_of chain) (length (bytes_of packet.now)) ≤ 4096) × (4096 ≤ length room.old) }
+    ensures { joins result room.new ≡ part_added j (bytes_of packet.now) (bits_of chain) room.old }
 {
     buffer::copy_at(room, j.place_of(chain), packet.part());
     tell(j, packet, chain)
@@ -280,7 +281,7 @@ fn add_part(j: Joining, packet: &Packet, chain: Chain, room: &mut [u8]) -> Joine
 #[tactic(auto, unfolding(crate::specs::Join::part_joined))]
 fn join_part(limit: Limit, channel: Channel, j: Joining, packet: &Packet, room: &mut [u8]) -> Joined
     requires { 4096 ≤ length room.old }
-    ensures { joins result room.new ≡ part_joined limit.m channel.number j packet.now room.old }
+    ensures { joins result room.new ≡ part_joined limit.m channel.number j (bytes_of packet.now) room.old }
 {
     match chain_gate(limit, j, packet) {
         Ok(chain) => add_part(j, packet, chain, room),
