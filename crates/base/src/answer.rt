@@ -70,6 +70,7 @@ impl Refusal {
 pub struct NoRefusal;
 
 // Which refusal a call's answer is.
+// Stays: a table, since no derive makes one; `Numbered` holds that it goes back from `number`.
 impl TryFrom<u8> for Refusal {
     type Error = NoRefusal;
 

@@ -12,11 +12,13 @@ use base::answer;
 use base::answer::Refusal;
 use state::{Link, Outcome};
 
-// look's answer: a type of its own, so that it can tell more than the other calls' do later, e.g. when the next timer is due.
+// look's answer: a type of its own, so that it can tell more than the other calls' do later, e.g. when the next timer is due (`looked`).
 #[derive(Clone, Copy)]
 pub struct Looked {
     pub outcome: Outcome,
 }
+
+// Stays: l, slots, frame and ms are parameters, as in receive, and for the same reason.
 
 // ---- a due packet
 

@@ -25,7 +25,7 @@ pub const LOW_FIRST: u8 = 0;
 pub const HIGH_FIRST: u8 = 1;
 
 // What steps 1 to 4 make of a received frame; each refusal is a case of its own, with a number of its own (R12.7).
-// Stays: refused or not, one type, for `heard` and `obeyed` go by its nine cases.
+// Stays: the refusals stand among the others, since `heard` and `obeyed` go by these nine cases.
 #[derive(Clone, Copy)]
 pub enum Heard {
     Size,
@@ -121,7 +121,7 @@ fn judge(fctr: u8, len: u16, size: usize) -> Heard
     let control = 0x80 <= fctr;
     let unused = !is_used(fctr);
     let oversize = control && (size != 5 || len != 0);
-    let uneven = !control && (len == 0 || len as usize != size - 5);
+    let uneven = !control && (len == 0 || usize::from(len) != size - 5);
     if unused {
         return Heard::Code;
     }
@@ -225,7 +225,7 @@ fn write_control(format: Format, frame: &mut [u8], fctr: u8) -> u16
 }
 
 // Writes a control ACK, and gives its length.
-// Stays: this and write_nak are calls of write_control, one number apart; each has the rule's frame in its contract, which STATEMENTS names.
+// Stays: this and write_nak are one call of write_control each, and one for both would say no more.
 pub fn write_ack(format: Format, frame: &mut [u8], acknowledged: u8) -> u16
     requires { (acknowledged ≤ 3) × (5 ≤ length frame.old) }
     ensures { Written (ack_frame format acknowledged) frame.old frame.new result }

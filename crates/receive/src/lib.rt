@@ -17,8 +17,9 @@ use frame::Heard;
 use send::Sent;
 use state::{Link, Outcome};
 
-// Stays: l, slots, frame and ms are parameters here and in clock. A struct of them was tried: what it holds is lent, so each contract reads
-// `call.entry.slots.now` for `slots.now`, and `call.exit.1.now` for `frame.new`.
+// Stays: l, slots, frame and ms are parameters here and in clock, and what the gate has found is asked for by each function behind it. A
+// struct of them that holds it was tried: what is in it is lent, so a contract reads `call.entry.slots.now` for `slots.now`, and
+// `call.exit.1.now` for `frame.new`. A data frame's numbers stay apart too, as `data_taken` has them, and so do `acknowledged` and `repeat`.
 
 // ---- step 6: R4.6
 

@@ -54,8 +54,8 @@ pub struct Outcome {
 
 // ---- numbers and slots
 //
-// Stays: a window of 1 or 2 is asked for here and below, since the functions that are called from other crates take any Link; a type for it
-// would be made anew in each. Where a crate's own functions ask for it, there is one: Place (send).
+// Stays: a window of 1 or 2, and a number of at most 3, are asked for here and below. slot_of, sent_before, behind_number and is_packet_due,
+// which STATEMENTS names with that, take a Link and a u8; a type for the five functions under them would be made anew in each of these.
 
 // The number of the last data frame that was delivered.
 pub fn last_correct(l: Link) -> u8
