@@ -1,7 +1,7 @@
 -- Laws of `put`, for whoever writes into a lent buffer, and of one element stored.
-use Rattle.std.proofs.Common.{◌≡◌, ℕ, ◌+◌, ◌-◌, ◌≤◌, Bool, true, false, eqb, ltb, List, [], ◌++◌, length, get_or, take, drop, set, sym, refl, ap, ◌∙◌, subst, append_assoc, append-nil, add_assoc, zero-add, arith, length-append, length-drop, take-append-drop, drop_of_length-le, length-take, length-take-le, get_or-set_other, get_or-set_same, take-take, drop-drop, take_at, take-add, drop_at, ltb-false, ltb-true, eqb-true}
-use borrow.Author.Tests.{eqb-false}
-use lib.Seq.{take-length, drop-append-add, drop-append-le, take-append-le, take-append_seam, sets, sets-eq, set_out}
+use Rattle.std.proofs.Common.{◌≡◌, ℕ, ◌+◌, ◌-◌, ◌≤◌, Bool, true, false, eqb, ltb, List, ◌++◌, length, get_or, take, drop, set, sym, refl, ap, ◌∙◌, subst, append_assoc, add_assoc, zero-add, arith, length-append, length-drop, take-append-drop, length-take, length-take-le, get_or-set_other, get_or-set_same, take-take, drop-drop, take_at, take-add, drop_at, ltb-false, ltb-true, eqb-true}
+use Rattle.std.proofs.lemmas.Bool.{eqb-false}
+use lib.Seq.{drop-append-add, drop-append-le, take-append-le, take-append_seam, sets, sets-eq, set_out}
 use Rattle.base.specs.Buffer.{put}
 
 pub put-length : (d s : List ℕ) (at : ℕ) → at + length s ≤ length d → length (put d at s) ≡ length d
@@ -49,14 +49,6 @@ pub put_over : (d s t : List ℕ) → length s ≤ length d → length s ≤ len
 unfolding put
 put_over d s t h l =
     ap (λ (x : List ℕ). t ++ x) (rw (zero-add, zero-add) (drop_past s d (length t) l))
-
--- a lent part of k bytes that comes back with all of s copied over it is s put where the part begins
-pub put_part : (d s part : List ℕ) (at k : ℕ) → k ≡ length s → at + k ≤ length d
-    → part ≡ take (length s) s ++ drop (length s) (take k (drop at d)) → take at d ++ (part ++ drop k (drop at d)) ≡ put d at s
-unfolding put
-put_part d s part at k e h q =
-    let rest : drop k (take k (drop at d)) ≡ [] = drop_of_length-le (take k (drop at d)) {i = k} (simp (length-take, length-drop) (omega arith)) in
-    rw (q, take-length, ← e, rest, append-nil, drop-drop)
 
 -- what is left of a part behind its first n bytes, and all behind the part, is all behind those n
 behind_lent : (d : List ℕ) (at k n : ℕ) → n ≤ k → at + k ≤ length d → drop n (take k (drop at d)) ++ drop k (drop at d) ≡ drop (at + n) d

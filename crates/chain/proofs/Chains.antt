@@ -1,8 +1,8 @@
 -- What the gate of a chain says; the calls alone.
 use Rattle.std.proofs.Common.{◌≡◌, sym, ap, ◌∙◌, Bool, cond, ◌&&◌, List, ℕ, ◌≤◌, arith, ltb-false, eqb-true, ne_eqb, ◌≢◌, false, length, get_or, ltb, leb, eqb}
 use Rattle.base.specs.Answer.{done, chain_fault, fault_told, secured_packet, too_long}
-use borrow.Author.Tests.{lt-leb}
-use Rattle.base.proofs.Tests.{cond_cases, spared, first_refusal_four}
+use Rattle.std.proofs.lemmas.Bool.{lt-leb, cond_both}
+use Rattle.base.proofs.Tests.{spared, first_refusal_four}
 use Rattle.chain.specs.declared.Joining.{Joining}
 use Rattle.chain.specs.declared.pctr.Chain.{Chain}
 use Rattle.chain.specs.declared.pctr.Chain.TheVariants.{Whole, First, Middle, Last, Fault}
@@ -47,23 +47,23 @@ join_settled m j packet room told other written other_written p q =
     (ap (λ (j : Joins). j.told) e, ap (λ (j : Joins). j.room) e)
 
 refusal_kept : (channel : ℕ) (j : Joining) (answer : ℕ) → j.length ≤ longest → (refusal channel j answer).state.length ≤ longest
-refusal_kept channel j answer h = cond_cases (λ (k : Joining). k.length ≤ longest) (drops_chain answer) (closed j) j (λ e. omega arith) (λ e. h)
+refusal_kept channel j answer h = cond_both (drops_chain answer) (closed j) j (λ (k : Joining). k.length ≤ longest) (λ e. omega arith) (λ e. h)
 
 part_kept : (j : Joining) (chain size : ℕ) → total_of j chain size ≤ longest → (part_told j chain size).state.length ≤ longest
 part_kept j chain size h =
-    cond_cases (λ (k : Joining). k.length ≤ longest) (finishes chain) (closed j) (grown j (total_of j chain size)) (λ e. omega arith) (λ e. h)
+    cond_both (finishes chain) (closed j) (grown j (total_of j chain size)) (λ (k : Joining). k.length ≤ longest) (λ e. omega arith) (λ e. h)
 
 part_joined_kept : (m channel : ℕ) (j : Joining) (packet room : List ℕ) → j.length ≤ longest → (part_joined m channel j packet room).told.state.length ≤ longest
 unfolding part_joined
 part_joined_kept m channel j packet room h =
     let pctr : ℕ = get_or packet 0 0 in
     let answer : ℕ = chain_gate m j pctr (length packet) in
-    cond_cases (λ (a : Joins). a.told.state.length ≤ longest) (eqb answer done) (part_added j packet (chain_of pctr) room) (joins (refusal channel j answer) room)
+    cond_both (eqb answer done) (part_added j packet (chain_of pctr) room) (joins (refusal channel j answer) room) (λ (a : Joins). a.told.state.length ≤ longest)
     (λ e. part_kept j (chain_of pctr) (length packet) (chain_gate_fits m j pctr (length packet) (eqb-true answer done e))) (λ e. refusal_kept channel j answer h)
 
 pub join_kept : JoinKept
 unfolding joined
 join_kept m j packet room h =
     let answer : ℕ = join_gate m j packet (length room) in
-    cond_cases (λ (a : Joins). a.told.state.length ≤ longest) (eqb answer done) (part_joined m only_channel j packet room) (joins (refusal only_channel j answer) room)
+    cond_both (eqb answer done) (part_joined m only_channel j packet room) (joins (refusal only_channel j answer) room) (λ (a : Joins). a.told.state.length ≤ longest)
     (λ e. part_joined_kept m only_channel j packet room h) (λ e. refusal_kept only_channel j answer h)

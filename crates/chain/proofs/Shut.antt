@@ -1,6 +1,6 @@
 -- The wrong calls of specs/FalseCalls.antt, each tried at one input or two, of numbers and bytes that code can hold, by computing.
 use Rattle.std.proofs.Common.{◌≡◌, refl, ap, ◌≢◌, true, false, List, [], ◌∷◌, ℕ, suc, ◌+◌, ◌-◌, ◌%◌, arith, length, get_or, replicate}
-use borrow.Author.Tests.{eqb-false}
+use Rattle.std.proofs.lemmas.Bool.{eqb-false}
 use Rattle.base.specs.Buffer.{put}
 use Rattle.chain.specs.declared.Joining.{Joining}
 use Rattle.chain.specs.Cut.{cut_out}

@@ -1,7 +1,7 @@
 -- Looking at the clock and acknowledging keep an end's state sound.
 use Rattle.std.proofs.Common.{Bool, true, false, List, ℕ, length}
 use Rattle.base.specs.Answer.{done}
-use Rattle.base.proofs.Tests.{cond_cases}
+use Rattle.std.proofs.lemmas.Bool.{cond_both}
 use Rattle.state.specs.declared.Link.{Link}
 use Rattle.state.specs.declared.Outcome.{Outcome}
 use Rattle.state.specs.State.{sent_before}
@@ -16,8 +16,7 @@ use Rattle.clock.specs.Look.{after_oldest, exhausted, served, acknowledged_if, l
 
 served_sound : (l : Link) (slots frame : List ℕ) (ms number : ℕ) → Sound l → Sound (served l slots frame ms number).told.state
 served_sound l slots frame ms number s =
-    cond_cases (λ (a : After Outcome). Sound a.told.state) (may_repeat l number)
-    (concluded (sends_repeat l slots frame ms number) done 0 slots) (exhausted l slots frame)
+    cond_both (may_repeat l number) (concluded (sends_repeat l slots frame ms number) done 0 slots) (exhausted l slots frame) (λ (a : After Outcome). Sound a.told.state)
     (λ e. again_sound l number ms s e) (λ e. marked_sound l l.ackstart l.acking l.nakmark true s)
 
 acknowledged_if_sound : (owed : Bool) (l : Link) (slots frame : List ℕ) → Sound l → Sound (acknowledged_if owed l slots frame).told.state
@@ -26,15 +25,13 @@ acknowledged_if_sound false l slots frame s = s
 
 looked_newer_sound : (l : Link) (slots frame : List ℕ) (ms : ℕ) → Sound l → Sound (looked_newer l slots frame ms).told.state
 looked_newer_sound l slots frame ms s =
-    cond_cases (λ (a : After Outcome). Sound a.told.state) (packet_due l 0 ms)
-    (served l slots frame ms (sent_before l 0)) (acknowledged_if (acknowledge_due l ms) l slots frame)
+    cond_both (packet_due l 0 ms) (served l slots frame ms (sent_before l 0)) (acknowledged_if (acknowledge_due l ms) l slots frame) (λ (a : After Outcome). Sound a.told.state)
     (λ e. served_sound l slots frame ms (sent_before l 0) s) (λ e. acknowledged_if_sound (acknowledge_due l ms) l slots frame s)
 
 looked_open_sound : (l : Link) (slots frame : List ℕ) (ms : ℕ) → Sound l → Sound (looked_open l slots frame ms).told.state
 unfolding looked_open
 looked_open_sound l slots frame ms s =
-    cond_cases (λ (a : After Outcome). Sound a.told.state) (packet_due l (after_oldest l) ms)
-    (served l slots frame ms (sent_before l (after_oldest l))) (looked_newer l slots frame ms)
+    cond_both (packet_due l (after_oldest l) ms) (served l slots frame ms (sent_before l (after_oldest l))) (looked_newer l slots frame ms) (λ (a : After Outcome). Sound a.told.state)
     (λ e. served_sound l slots frame ms (sent_before l (after_oldest l)) s) (λ e. looked_newer_sound l slots frame ms s)
 
 pub looked_sound : (l : Link) (slots frame : List ℕ) (ms : ℕ) → Sound l → Sound (looked l slots frame ms).told.outcome.state

@@ -1,8 +1,7 @@
 -- What hearing cites, and that what was written is heard.
 use Rattle.std.proofs.Common.{◌≡◌, refl, ap, ◌∙◌, Bool, true, false, true≢false, not, ◌&&◌, ◌||◌, List, [], ◌∷◌, ◌++◌, ℕ, zero, suc, ◌+◌, ◌-◌, ◌*◌, ◌/◌, ◌%◌, ◌≤◌, arith, eqb-true, le-ltb, le-leb, eq-eqb, ne_eqb, length, eqb, ltb}
-use borrow.Author.Tests.{not-true, not-false, lt-leb}
+use Rattle.std.proofs.lemmas.Bool.{not-true, not-false, lt-leb, or_parts, cond_both}
 use lib.Seq.{take-append_seam, drop-append_seam}
-use Rattle.base.proofs.Tests.{or_right_false, cond_cases}
 use Rattle.fcs.specs.Checksum.{checksum_of}
 use Rattle.frame.specs.declared.Format.{Format}
 use Rattle.frame.specs.declared.Heard.{Heard}
@@ -112,14 +111,14 @@ packet_heard format number acknowledged packet = take-append_seam packet _
 even : (control : Bool) (len size : ℕ) → control ≡ false → (not control && (eqb len 0 || not (eqb len (size - 5)))) ≡ false → len ≡ size - 5
 even true len size c e = absurd (true≢false c)
 even false len size c e =
-    eqb-true len (size - 5) (not-false (eqb len (size - 5)) (or_right_false (eqb len 0) (not (eqb len (size - 5))) e))
+    eqb-true len (size - 5) (not-false (eqb len (size - 5)) (or_parts _ _ e).1)
 
 accepted_holds : (P : Heard → Type 0) (fctr len : ℕ) → P Reset → P (Ack (acknowledged_of fctr)) → P (Nak (acknowledged_of fctr))
     → (is_control fctr ≡ false → P (Data (number_of fctr) (is_nak fctr) (acknowledged_of fctr) len)) → P (accepted fctr len)
 unfolding accepted
 accepted_holds P fctr len reset ack nak datum =
-    cond_cases P (is_control fctr) _ _
-    (λ c. cond_cases P (is_reset fctr) _ _ (λ r. reset) (λ r. cond_cases P (is_nak fctr) _ _ (λ n. nak) (λ n. ack)))
+    cond_both (is_control fctr) _ _ P
+    (λ c. cond_both (is_reset fctr) _ _ P (λ r. reset) (λ r. cond_both (is_nak fctr) _ _ P (λ n. nak) (λ n. ack)))
     datum
 
 -- the tests of steps 3 and 4, beside that of bit 7
@@ -142,12 +141,12 @@ pub heard_holds : (P : Heard → Type 0) (format : Format) (frame : List ℕ)
     → P (heard format frame)
 unfolding heard judged
 heard_holds P format frame size sum code control len reset ack nak datum =
-    cond_cases P (ltb (length frame) 5 || ltb format.d (length frame)) _ _ size
-    (λ e. cond_cases P (not (right format frame)) _ _ (λ f. sum (not-true (right format frame) f))
+    cond_both (ltb (length frame) 5 || ltb format.d (length frame)) _ _ P size
+    (λ e. cond_both (not (right format frame)) _ _ P (λ f. sum (not-true (right format frame) f))
     (λ f. let r : right format frame ≡ true = not-false (right format frame) f in
-    cond_cases P (not (used (fctr_of frame))) _ _ (λ u. code r (not-true (used (fctr_of frame)) u))
-    (λ u. cond_cases P (is_control (fctr_of frame) && oversize frame) _ _ (control r)
-    (λ c. cond_cases P (not (is_control (fctr_of frame)) && uneven frame) _ _ (len r)
+    cond_both (not (used (fctr_of frame))) _ _ P (λ u. code r (not-true (used (fctr_of frame)) u))
+    (λ u. cond_both (is_control (fctr_of frame) && oversize frame) _ _ P (control r)
+    (λ c. cond_both (not (is_control (fctr_of frame)) && uneven frame) _ _ P (len r)
     (λ l. accepted_holds P (fctr_of frame) (len_of frame) reset ack nak (λ k. datum (even (is_control (fctr_of frame)) (len_of frame) (length frame) k l)))))))
 
 pub number_heard : NumberHeard

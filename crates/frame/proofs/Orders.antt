@@ -1,7 +1,7 @@
 -- What the order of FCS changes.
 use Rattle.std.proofs.Common.{◌≡◌, refl, sym, ap, ◌∙◌, Bool, true, false, ◌&&◌, ◌≢◌, List, [], ◌∷◌, ◌++◌, reverse, ℕ, suc, ◌+◌, ◌-◌, ◌/◌, ◌%◌, ◌≤◌, ◌<◌, add-one, arith, ltb-false, eqb-true, ne_eqb, length, take, drop, get_or, length-append, length-drop, take-append-drop, length-take-le, take_all, take_at, drop_at, get_or-take, drop-cons, eqb, ltb}
 use lib.ListN.{length-reverse, get_or-append}
-use Rattle.base.proofs.Tests.{and_left, and_right, cond_cases}
+use Rattle.std.proofs.lemmas.Bool.{and_parts, cond_both}
 use Rattle.fcs.specs.Checksum.{checksum_of}
 use Rattle.frame.specs.declared.Format.{Format}
 use Rattle.frame.specs.declared.Heard.TheVariants.{Sum}
@@ -25,7 +25,7 @@ by_order_other format a b = go (eqb format.order high_first) refl
     go false e = rw e
 
 by_order_same : {A : Type 0} (format : Format) (a : A) → by_order format a a ≡ a
-by_order_same format a = cond_cases (λ b. b ≡ a) (eqb format.order high_first) a a (λ e. refl) (λ e. refl)
+by_order_same format a = cond_both (eqb format.order high_first) a a (λ b. b ≡ a) (λ e. refl) (λ e. refl)
 
 fcs_bytes_other : (format : Format) (sum : ℕ) → fcs_bytes (in_other_order format) sum ≡ reverse (fcs_bytes format sum)
 fcs_bytes_other format sum = rw (by_order_other format (sum % 256) (sum / 256), by_order_other format (sum / 256) (sum % 256))
@@ -115,7 +115,7 @@ heard-turned format frame = go (ltb (length frame) 5) refl
 
 same_two : (a b x y : ℕ) → (eqb a x && (eqb b y && true)) ≡ true → (a ≡ x) × (b ≡ y)
 same_two a b x y e =
-    (eqb-true a x (and_left (eqb a x) (eqb b y && true) e), eqb-true b y (and_left (eqb b y) true (and_right (eqb a x) (eqb b y && true) e)))
+    (eqb-true a x (and_parts _ _ e).0, eqb-true b y (and_parts _ _ (and_parts _ _ e).1).0)
 
 -- FCS is right in the other order: here each of the two bytes stands where the other should
 right_other : (format : Format) (frame : List ℕ) → 2 ≤ length frame → fcs_at (in_other_order format) (length frame - 2) frame ≡ true

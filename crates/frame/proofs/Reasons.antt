@@ -1,15 +1,14 @@
 -- What a refusal's number tells: which refusal it was, and what is so of the frame.
 use Rattle.std.proofs.Common.{◌≡◌, refl, ap, sym, ◌∙◌, Bool, true, false, cond, not, ◌||◌, ◌⊎◌, inl, inr, ◌≢◌, List, ℕ, ◌-◌, ◌<◌, ltb-true, eqb-true, lt-ltb, le-ltb, eq-eqb, ne_eqb, length, eqb, ltb}
 use mathlib.Core.Bool.{or-true}
-use borrow.Author.Tests.{eqb-false, not-true}
+use Rattle.std.proofs.lemmas.Bool.{eqb-false, not-true, and_parts}
 use Rattle.base.specs.Answer.{done, frame_sum, unused_code, control_size, frame_size}
-use Rattle.base.proofs.Tests.{and_left, and_right}
 use Rattle.frame.specs.declared.Format.{Format}
 use Rattle.frame.specs.declared.Heard.{Heard}
 use Rattle.frame.specs.declared.Heard.TheVariants.{Size, Sum, Code, ControlSize, Length, Reset, Ack, Nak, Data}
 use Rattle.frame.specs.Steps.{fctr_of, len_of, is_control, is_nak, number_of, acknowledged_of, judged, heard, refusal_of}
 use Rattle.frame.specs.Promises.{NumberTells, Reason, wrong_size, wrong-sum, wrong-code, wrong-control, wrong-len, passed, ReasonHeard, FaultHeard}
-use Rattle.frame.proofs.Hearing.{oversize, uneven, heard_holds}
+use Rattle.frame.proofs.Hearing.{uneven, heard_holds}
 
 -- ---- the number
 
@@ -53,10 +52,10 @@ reason_heard format frame =
     (λ e. wrong_size (either (ltb n 5) (ltb format.d n) e (ltb-true n 5) (ltb-true format.d n)))
     wrong-sum
     wrong-code
-    (λ r c. wrong-control r (and_left control (oversize frame) c)
-    (either (not (eqb n 5)) (not (eqb len 0)) (and_right control (oversize frame) c) (differs n 5) (differs len 0)))
-    (λ r l. wrong-len r (not-true control (and_left (not control) (uneven frame) l))
-    (either (eqb len 0) (not (eqb len (n - 5))) (and_right (not control) (uneven frame) l) (eqb-true len 0) (differs len (n - 5))))
+    (λ r c. wrong-control r (and_parts _ _ c).0
+    (either (not (eqb n 5)) (not (eqb len 0)) (and_parts _ _ c).1 (differs n 5) (differs len 0)))
+    (λ r l. wrong-len r (not-true control (and_parts _ _ l).0)
+    (either (eqb len 0) (not (eqb len (n - 5))) (and_parts _ _ l).1 (eqb-true len 0) (differs len (n - 5))))
     (passed Reset refl)
     (passed (Ack (acknowledged_of (fctr_of frame))) refl)
     (passed (Nak (acknowledged_of (fctr_of frame))) refl)

@@ -1,6 +1,6 @@
 -- The wrong ends of specs/FalseEnds.antt, each tried at one input or two, of numbers and bytes that code can hold, by computing.
 use Rattle.std.proofs.Common.{◌≡◌, refl, ap, sym, ◌∙◌, ◌≢◌, Bool, true, false, cond, List, [], ◌∷◌, ◌++◌, ℕ, suc, ◌+◌, ◌-◌, ◌%◌, ◌≤◌, arith, eq-eqb, length, get_or, replicate}
-use borrow.Author.Tests.{eqb-false}
+use Rattle.std.proofs.lemmas.Bool.{eqb-false}
 use Rattle.base.specs.Answer.{frame_sum, unused_code, frame_size, frame_length}
 use Rattle.base.specs.Buffer.{put}
 use Rattle.fcs.specs.Checksum.{checksum_of}

@@ -1,8 +1,7 @@
 -- Rounds can always be played.
 use Rattle.std.proofs.Common.{◌≡◌, refl, sym, ap, subst, Bool, true, false, cond, not, ◌&&◌, List, [], ◌∷◌, ◌++◌, ℕ, zero, suc, ◌%◌, ◌+◌, ◌*◌, ◌≤◌, ◌<◌, arith, eqb-true, length, eqb, ltb}
-use borrow.Author.Tests.{eqb-false}
+use Rattle.std.proofs.lemmas.Bool.{eqb-false, cond_both}
 use Rattle.base.specs.Answer.{done, out_of_range, link_lost, unexpected, short_buffer}
-use Rattle.base.proofs.Tests.{cond_cases}
 use Rattle.frame.specs.declared.Format.{Format}
 use Rattle.frame.specs.declared.Heard.{Heard}
 use Rattle.frame.specs.declared.Heard.TheVariants.{Size, Sum, Code, ControlSize, Length, Reset, Ack, Nak, Data}
@@ -354,5 +353,5 @@ pub starts_fresh : StartsFresh
 unfolding started
 starts_fresh s slots =
     let Fresh : Outcome → Type 0 = λ o. o.answer ≡ done → o.state ≡ fresh_of s in
-    cond_cases Fresh (not (in_range s)) (only zeros out_of_range) _ (λ e q. absurd (omega (arith, q)))
-    (λ e. cond_cases Fresh (ltb slots (slots_need s)) (only zeros short_buffer) (only (fresh_of s) done) (λ k q. absurd (omega (arith, q))) (λ k q. refl))
+    cond_both (not (in_range s)) (only zeros out_of_range) _ Fresh (λ e q. absurd (omega (arith, q)))
+    (λ e. cond_both (ltb slots (slots_need s)) (only zeros short_buffer) (only (fresh_of s) done) Fresh (λ k q. absurd (omega (arith, q))) (λ k q. refl))

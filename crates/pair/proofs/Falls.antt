@@ -1,8 +1,8 @@
 -- Twenty-four rounds: a measure that nothing in a quiet continuation raises, and that each served timer lowers.
-use Rattle.std.proofs.Common.{◌≡◌, refl, sym, ap, subst, ◌∙◌, Bool, true, false, true≢false, cond, not, ◌&&◌, ◌||◌, List, [], ◌∷◌, ◌⊎◌, inl, inr, ℕ, suc, ◌%◌, ◌+◌, ◌-◌, ◌≤◌, arith, ltb-false, ne_eqb, eq-eqb, length, length-append, take_all, eqb, ltb}
+use Rattle.std.proofs.Common.{◌≡◌, refl, sym, ap, subst, ◌∙◌, Bool, true, false, true≢false, cond, not, ◌&&◌, ◌||◌, List, [], ◌∷◌, ◌⊎◌, inl, inr, ℕ, suc, ◌%◌, ◌+◌, ◌-◌, ◌≤◌, arith, ltb-false, ne_eqb, eq-eqb, length, length-append, take_all, eqb}
 use mathlib.Core.Bool.{and-true}
 use Rattle.base.specs.Answer.{done}
-use Rattle.base.proofs.Tests.{and_right, or_left_false, or_right_false}
+use Rattle.std.proofs.lemmas.Bool.{and_parts, or_parts}
 use Rattle.frame.specs.declared.Heard.{Heard}
 use Rattle.frame.specs.declared.Heard.TheVariants.{Size, Sum, Code, ControlSize, Length, Reset, Ack, Nak, Data}
 use Rattle.frame.specs.Bytes.{nak_frame}
@@ -177,7 +177,7 @@ look_does s S frame ms I enough = go l.lost refl
     go : (t : Bool) → l.lost ≡ t → CalmLook l (gated g l S.here.slots frame (looked_open l S.here.slots frame ms)) (due_at l ms && not t)
     go true e = gated_cases (λ a. CalmLook l a (due_at l ms && false)) g l S.here.slots frame (looked_open l S.here.slots frame ms)
         (λ q. absurd (true≢false (sym e ∙ (gate_of_facts l (length S.here.slots) (length frame) q).alive)))
-        (λ n. looked_same l S.here.slots frame g (due_at l ms && false) (λ o. true≢false (sym (and_right (due_at l ms) false o))))
+        (λ n. looked_same l S.here.slots frame g (due_at l ms && false) (λ o. true≢false (sym (and_parts _ _ o).1)))
     go false e =
         let open-gate : g ≡ done = sound_open l (length S.here.slots) (length frame) I.here.sound e room enough in
         subst (λ y. CalmLook l y (due_at l ms && true)) (sym (gated_open g l S.here.slots frame (looked_open l S.here.slots frame ms) open-gate))
@@ -249,11 +249,11 @@ empty_falls s S T F e = record { here = omega (arith, F.few_here, e.here); there
 -- where no timer runs nothing waits
 none_runs : (S : System) → some_runs S ≡ false → Empty S
 none_runs S e =
-    let h : runs S.here.state ≡ false = or_left_false (runs S.here.state) (runs S.there.state) e in
-    let t : runs S.there.state ≡ false = or_right_false (runs S.here.state) (runs S.there.state) e in
+    let h : runs S.here.state ≡ false = (or_parts (runs S.here.state) (runs S.there.state) e).0 in
+    let t : runs S.there.state ≡ false = (or_parts (runs S.here.state) (runs S.there.state) e).1 in
     record {
-      here = omega (arith, ltb-false 0 S.here.state.waiting (or_left_false (ltb 0 S.here.state.waiting) S.here.state.acking h));
-      there = omega (arith, ltb-false 0 S.there.state.waiting (or_left_false (ltb 0 S.there.state.waiting) S.there.state.acking t));
+      here = omega (arith, ltb-false 0 S.here.state.waiting (or_parts _ _ h).0);
+      there = omega (arith, ltb-false 0 S.there.state.waiting (or_parts _ _ t).0);
     }
 
 -- a round: nothing grew, and either both windows are empty and the clock stood, or the measure fell

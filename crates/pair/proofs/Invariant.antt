@@ -1,11 +1,10 @@
 -- What holds at every moment, and how each small change keeps it.
 use Rattle.std.proofs.Common.{◌≡◌, refl, sym, ap, subst, ◌∙◌, Bool, true, false, List, [], ◌∷◌, ◌++◌, ℕ, zero, suc, ◌%◌, ◌+◌, ◌-◌, ◌*◌, ◌≤◌, ◌<◌, arith, ltb-false, eqb-true, length, take, get_or, set, length-append, take-suc, eqb}
-use borrow.Author.Tests.{eqb-false}
+use Rattle.std.proofs.lemmas.Bool.{eqb-false, cond_both}
 use lib.ListN.{get_or-append}
 use lib.Seq.{take-append-le, get_or-append_seam}
 use Rattle.base.specs.Buffer.{put}
 use Rattle.base.proofs.Put.{set_cases}
-use Rattle.base.proofs.Tests.{cond_cases}
 use Rattle.frame.specs.declared.Heard.TheVariants.{Data}
 use Rattle.frame.specs.Steps.{heard, packet_in}
 use Rattle.state.specs.declared.Settings.{Settings}
@@ -109,7 +108,7 @@ pub freed_window : (l : Link) (n b x : ℕ) → l.next ≡ n % 4 → b + l.waiti
 freed_window l n b x e w small lo hi =
     let k : ℕ = (x + 3) % 4 in
     let at : behind l k ≡ n - x = omega arith in
-    cond_cases (λ y. x + y ≡ n) (waits l k) (behind l k) l.waiting (λ q. omega (arith, at)) (λ q. omega (arith, at, ltb-false (behind l k) l.waiting q))
+    cond_both (waits l k) (behind l k) l.waiting (λ y. x + y ≡ n) (λ q. omega (arith, at)) (λ q. omega (arith, at, ltb-false (behind l k) l.waiting q))
 
 -- ---- small changes
 
@@ -212,7 +211,7 @@ inv_delivered s S ms x q packet I c lo more p w =
       got_there = I.got_there;
       here = record {
         sound = after_delivery_sound (freed l ((x + 3) % 4)) ms (freed_sound l ((x + 3) % 4) I.here.sound);
-        timed = (I.here.timed.0, cond_cases (λ n. IsClock n) l.acking l.ackstart ms (λ e. I.here.timed.1) (λ e. c));
+        timed = (I.here.timed.0, cond_both l.acking l.ackstart ms (λ n. IsClock n) (λ e. I.here.timed.1) (λ e. c));
         settings = I.here.settings;
         room = I.here.room;
         next = I.here.next;

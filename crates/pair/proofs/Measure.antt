@@ -1,9 +1,8 @@
 -- What is left to be repeated and acknowledged at one end, and that no call of a quiet continuation raises it.
 use Rattle.std.proofs.Common.{◌≡◌, refl, sym, ap, subst, Bool, true, false, true≢false, cond, not, ◌&&◌, ◌||◌, List, [], ℕ, zero, suc, ◌%◌, ◌+◌, ◌-◌, ◌*◌, ◌≤◌, ◌<◌, arith, ltb-true, eqb-true, ne_eqb, length, get_or, get_or-set_same, eqb, ltb}
-use borrow.Author.Tests.{eqb-false}
+use Rattle.std.proofs.lemmas.Bool.{eqb-false, and_parts}
 use Rattle.base.specs.Answer.{done}
 use Rattle.base.proofs.Put.{set_cases}
-use Rattle.base.proofs.Tests.{and_left}
 use Rattle.frame.specs.declared.Format.{Format}
 use Rattle.frame.specs.Bytes.{frame_of, data_frame}
 use Rattle.frame.proofs.Writing.{frame_of-length}
@@ -171,4 +170,4 @@ looked_look l slots frame ms s alive = go (packet_due l (after_oldest l) ms) (pa
         (cond second (served l slots frame ms (sent_before l 0)) (acknowledged_if (acknowledge_due l ms) l slots frame))) (second || packet_due l 1 ms || acknowledge_due l ms)
     go true second e e₁ = served_look l slots frame ms (after_oldest l) (second || packet_due l 1 ms || acknowledge_due l ms) s alive (due-waits l (after_oldest l) ms e)
     go false true e e₁ = served_look l slots frame ms 0 true s alive (due-waits l 0 ms e₁)
-    go false false e e₁ = rw (older e) (acknowledged_look l slots frame (acknowledge_due l ms) (and_left l.acking (due l.settings.acktimeout l.ackstart ms)))
+    go false false e e₁ = rw (older e) (acknowledged_look l slots frame (acknowledge_due l ms) (λ o. (and_parts _ _ o).0))

@@ -1,9 +1,9 @@
 -- How many milliseconds the rounds take.
 use Rattle.std.proofs.Common.{◌≡◌, refl, sym, ◌∙◌, Bool, true, false, true≢false, ◌||◌, ◌⊎◌, inl, inr, ℕ, suc, ◌+◌, ◌*◌, ◌≤◌, mul-le-mul_right, suc-mul, arith, ltb-true, ltb-false, lt-ltb, ltb}
-use Rattle.base.proofs.Tests.{and_left, or_first, or_second}
+use Rattle.std.proofs.lemmas.Bool.{and_parts, or_left, or_right}
 use Rattle.state.specs.declared.Settings.{Settings}
 use Rattle.state.specs.declared.Link.{Link}
-use Rattle.state.specs.Timer.{due, onward, packet_due, acknowledge_due}
+use Rattle.state.specs.Timer.{onward, packet_due, acknowledge_due}
 use Rattle.state.specs.Formed.{InRange}
 use Rattle.clock.proofs.Facts.{due-waits}
 use Rattle.pair.specs.System.{swap, IsClock}
@@ -21,19 +21,19 @@ due-runs : (l : Link) (ms : ℕ) → due_at l ms ≡ true → runs l ≡ true
 due-runs l ms e = go (packet_due l 0 ms) (packet_due l 1 ms) refl refl e
   where
     waits-so : (n : ℕ) → packet_due l n ms ≡ true → runs l ≡ true
-    waits-so n q = or_first (ltb 0 l.waiting) l.acking (lt-ltb 0 l.waiting (omega (arith, due-waits l n ms q)))
+    waits-so n q = or_left (ltb 0 l.waiting) l.acking (lt-ltb 0 l.waiting (omega (arith, due-waits l n ms q)))
 
     go : (a b : Bool) → packet_due l 0 ms ≡ a → packet_due l 1 ms ≡ b → (a || b || acknowledge_due l ms) ≡ true → runs l ≡ true
     go true b p q z = waits-so 0 p
     go false true p q z = waits-so 1 q
-    go false false p q z = or_second (ltb 0 l.waiting) l.acking (and_left l.acking (due l.settings.acktimeout l.ackstart ms) z)
+    go false false p q z = or_right (ltb 0 l.waiting) l.acking (and_parts _ _ z).0
 
 some_due-runs : (S : System) (ms : ℕ) → some_due S ms ≡ true → some_runs S ≡ true
 some_due-runs S ms e = go (due_at S.here.state ms) refl e
   where
     go : (y : Bool) → due_at S.here.state ms ≡ y → (y || due_at S.there.state ms) ≡ true → some_runs S ≡ true
-    go true p z = or_first (runs S.here.state) (runs S.there.state) (due-runs S.here.state ms p)
-    go false p z = or_second (runs S.here.state) (runs S.there.state) (due-runs S.there.state ms z)
+    go true p z = or_left (runs S.here.state) (runs S.there.state) (due-runs S.here.state ms p)
+    go false p z = or_right (runs S.here.state) (runs S.there.state) (due-runs S.there.state ms z)
 
 -- the clock is moved by at most TRANS_TIMEOUT
 pub passes_short : (s : Settings) (S : System) (ms passed : ℕ) → InRange s → Inv s S → IsClock ms → Passes S ms passed → passed ≤ s.transtimeout

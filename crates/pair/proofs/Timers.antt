@@ -1,7 +1,6 @@
 -- The first moment at which a timer is due.
 use Rattle.std.proofs.Common.{◌≡◌, refl, sym, ap, subst, Bool, true, false, ◌||◌, ℕ, zero, suc, ◌+◌, ◌≤◌, ◌<◌, arith, eqb-true, eqb, ltb}
-use borrow.Author.Tests.{eqb-false}
-use Rattle.base.proofs.Tests.{and_both, or_first, or_second}
+use Rattle.std.proofs.lemmas.Bool.{eqb-false, and_from, or_left, or_right}
 use Rattle.state.specs.declared.Settings.{Settings}
 use Rattle.state.specs.declared.Link.{Link}
 use Rattle.state.specs.State.{sent_before, start_of}
@@ -61,9 +60,9 @@ end_soon s l ms r e t c q = go (ltb 0 l.waiting) refl q
         record {
           after = k;
           within = omega (arith, transtimeout);
-          holds = or_first (packet_due l 0 then || packet_due l 1 then) (acknowledge_due l then)
-              (or_first (packet_due l 0 then) (packet_due l 1 then)
-              (and_both (ltb 0 l.waiting) (due l.settings.transtimeout (start_of l (sent_before l 0)) then) w
+          holds = or_left (packet_due l 0 then || packet_due l 1 then) (acknowledge_due l then)
+              (or_left (packet_due l 0 then) (packet_due l 1 then)
+              (and_from (ltb 0 l.waiting) (due l.settings.transtimeout (start_of l (sent_before l 0)) then) w
               (left-due l.settings.transtimeout (start_of l (sent_before l 0)) ms (omega (arith, transtimeout, r.transtimeout_hi)) (t.0 _) c)));
         }
     go false w z =
@@ -72,8 +71,8 @@ end_soon s l ms r e t c q = go (ltb 0 l.waiting) refl q
         record {
           after = k;
           within = omega (arith, acknowledge, r.acktimeout_hi);
-          holds = or_second (packet_due l 0 then || packet_due l 1 then) (acknowledge_due l then)
-              (and_both l.acking (due l.settings.acktimeout l.ackstart then) z
+          holds = or_right (packet_due l 0 then || packet_due l 1 then) (acknowledge_due l then)
+              (and_from l.acking (due l.settings.acktimeout l.ackstart then) z
               (left-due l.settings.acktimeout l.ackstart ms (omega (arith, acknowledge, r.acktimeout_hi, r.transtimeout_hi)) t.1 c));
         }
 
@@ -85,10 +84,10 @@ some_soon s S ms r I c q = go (runs S.here.state) refl q
     go : (y : Bool) → runs S.here.state ≡ y → (y || runs S.there.state) ≡ true → Soon (λ k. some_due S (onward ms k)) s.transtimeout
     go true e z =
         let k : Soon (λ k. due_at S.here.state (onward ms k)) s.transtimeout = end_soon s S.here.state ms r I.here.settings I.here.timed c e in
-        record { after = k.after; within = k.within; holds = or_first (due_at S.here.state (onward ms k.after)) (due_at S.there.state (onward ms k.after)) k.holds }
+        record { after = k.after; within = k.within; holds = or_left (due_at S.here.state (onward ms k.after)) (due_at S.there.state (onward ms k.after)) k.holds }
     go false e z =
         let k : Soon (λ k. due_at S.there.state (onward ms k)) s.transtimeout = end_soon s S.there.state ms r I.there.settings I.there.timed c z in
-        record { after = k.after; within = k.within; holds = or_second (due_at S.here.state (onward ms k.after)) (due_at S.there.state (onward ms k.after)) k.holds }
+        record { after = k.after; within = k.within; holds = or_right (due_at S.here.state (onward ms k.after)) (due_at S.there.state (onward ms k.after)) k.holds }
 
 -- how far the clock is to be moved
 pub record Moved (S : System) (ms : ℕ) : Type 0 where

@@ -1,8 +1,7 @@
 -- What taking a frame cites.
 use Rattle.std.proofs.Common.{◌≡◌, sym, subst, ◌∙◌, Bool, true, false, true≢false, ◌&&◌, List, ℕ, ◌<◌, ◌≤◌, length, eqb, arith, ltb-true, eqb-true}
-use borrow.Author.Tests.{eqb-false}
+use Rattle.std.proofs.lemmas.Bool.{eqb-false, and_parts, cond_both}
 use Rattle.base.specs.Answer.{done, unexpected}
-use Rattle.base.proofs.Tests.{and_left, and_right, cond_cases}
 use Rattle.frame.specs.declared.Heard.TheVariants.{Data}
 use Rattle.frame.specs.Steps.{heard}
 use Rattle.state.specs.declared.Link.{Link}
@@ -27,7 +26,7 @@ frame_taken_open l slots frame ms received e = gated_open (gate_of l (length slo
 
 pub freed_fewer : (l : Link) (number : ℕ) → (freed l number).waiting ≤ l.waiting
 freed_fewer l number =
-    cond_cases (λ n. n ≤ l.waiting) (waits l number) (behind l number) l.waiting
+    cond_both (waits l number) (behind l number) l.waiting (λ n. n ≤ l.waiting)
     (λ e. omega (arith, ltb-true (behind l number) l.waiting e)) (λ e. omega arith)
 
 -- what step 6 would repeat waits: what holds of each packet that waits and may be repeated, named by how many were sent after it, holds of it
@@ -35,8 +34,8 @@ pub repeatable_holds : (P : ℕ → Type 0) (l : Link) (number : ℕ) → l.next
     → ((n : ℕ) → n < l.waiting → may_repeat l (sent_before l n) ≡ true → P (sent_before l n)) → P number
 repeatable_holds P l number next h e f =
     let same : sent_before l (behind l number) ≡ number = omega arith in
-    let waiting : behind l number < l.waiting = ltb-true (behind l number) l.waiting (and_left (waits l number) (may_repeat l number) e) in
-    let may : may_repeat l number ≡ true = and_right (waits l number) (may_repeat l number) e in
+    let waiting : behind l number < l.waiting = ltb-true (behind l number) l.waiting (and_parts _ _ e).0 in
+    let may : may_repeat l number ≡ true = (and_parts _ _ e).1 in
     subst P same (f (behind l number) waiting (subst (λ k. may_repeat l k ≡ true) (sym same) may))
 
 -- so it can be repeated
@@ -65,7 +64,5 @@ pub data_taken_lem : (P : After Outcome → Type 0) (l : Link) (slots frame : Li
     → P (obeyed l slots frame ms (Data number false acknowledged len))
 unfolding obeyed data_taken
 data_taken_lem P l slots frame ms number acknowledged len same other =
-    cond_cases P (eqb number l.expected)
-    (concluded (silent (after_delivery (freed l acknowledged) ms) frame) done len slots)
-    (concluded (sends_ack (freed l acknowledged) frame) unexpected 0 slots)
+    cond_both (eqb number l.expected) (concluded (silent (after_delivery (freed l acknowledged) ms) frame) done len slots) (concluded (sends_ack (freed l acknowledged) frame) unexpected 0 slots) P
     (λ e. same (eqb-true number l.expected e)) (λ e. other (eqb-false number l.expected e))

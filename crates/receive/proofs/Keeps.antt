@@ -1,12 +1,11 @@
 -- Taking a frame keeps an end's state sound.
 use Rattle.std.proofs.Common.{◌≡◌, refl, Bool, true, false, cond, ◌&&◌, List, ℕ, ◌+◌, ◌%◌, arith, length, eqb}
 use Rattle.base.specs.Answer.{done, unexpected}
-use Rattle.base.proofs.Tests.{and_right}
+use Rattle.std.proofs.lemmas.Bool.{and_parts}
 use Rattle.frame.specs.declared.Heard.{Heard}
 use Rattle.frame.specs.declared.Heard.TheVariants.{Size, Sum, Code, ControlSize, Length, Reset, Ack, Nak, Data}
 use Rattle.frame.specs.Steps.{heard}
 use Rattle.state.specs.declared.Link.{Link}
-use Rattle.state.specs.State.{waits}
 use Rattle.state.specs.Gate.{gate_of}
 use Rattle.state.specs.Formed.{Formed, Sound}
 use Rattle.state.proofs.Facts.{well_formed_facts}
@@ -43,7 +42,7 @@ repeated_or_sound false l slots frame ms number otherwise s m o = o
 
 -- neither step 6 with a NAK nor step 7 touches what decides a repeat
 sixth_repeats : (l : Link) (nak : Bool) (number : ℕ) → (nak && repeatable l number) ≡ true → may_repeat (after_step6 l nak number) number ≡ true
-sixth_repeats l true number e = and_right (waits l number) (may_repeat l number) e
+sixth_repeats l true number e = (and_parts _ _ e).1
 sixth_repeats l false number e = cc
 
 data_taken_sound : (l : Link) (slots frame : List ℕ) (ms number : ℕ) (nak : Bool) (acknowledged len : ℕ) → Sound l
@@ -80,7 +79,7 @@ obeyed_sound l slots frame ms Length s = sends_nak_sound l frame s
 obeyed_sound l slots frame ms Reset s = renewed_sound l s
 obeyed_sound l slots frame ms (Ack number) s = freed_sound l number s
 obeyed_sound l slots frame ms (Nak number) s =
-    repeated_or_sound (repeatable l number) l slots frame ms number (silent l frame) s (and_right (waits l number) (may_repeat l number)) s
+    repeated_or_sound (repeatable l number) l slots frame ms number (silent l frame) s (λ o. (and_parts _ _ o).1) s
 obeyed_sound l slots frame ms (Data number nak acknowledged len) s = data_taken_sound l slots frame ms number nak acknowledged len s
 
 pub frame_taken_sound : (l : Link) (slots frame : List ℕ) (ms : ℕ) (received : List ℕ) → Sound l → Sound (frame_taken l slots frame ms received).told.state

@@ -1,7 +1,7 @@
 -- Refusals with a NAK differ in their number alone, and the number tells which it was.
 use Rattle.std.proofs.Common.{◌≡◌, refl, ap, sym, ◌∙◌, ◌≢◌, List, [], ℕ, ◌≤◌, arith, length, eqb}
 use Rattle.base.specs.Answer.{done, unexpected}
-use Rattle.base.proofs.Tests.{cond_cases}
+use Rattle.std.proofs.lemmas.Bool.{cond_both}
 use Rattle.frame.specs.declared.Heard.{Heard}
 use Rattle.frame.specs.declared.Heard.TheVariants.{Size, Sum, Code, ControlSize, Length, Reset, Ack, Nak, Data}
 use Rattle.frame.specs.Steps.{heard, judged, refusal_of}
@@ -69,7 +69,7 @@ obeyed_tells l slots frame ms h Reset n e = absurd (n (sym e))
 obeyed_tells l slots frame ms h (Ack number) n e = absurd (n (sym e))
 obeyed_tells l slots frame ms h (Nak number) n e = absurd (n (sym e))
 obeyed_tells l slots frame ms h (Data number nak acknowledged len) n e =
-    absurd (cond_cases (λ (a : After Outcome). a.told.answer ≡ refusal_of h → ⊥) (eqb number l.expected) _ _ (λ t q. n (sym q)) (λ t q. (refusal_above h n).1 q) e)
+    absurd (cond_both (eqb number l.expected) _ _ (λ (a : After Outcome). a.told.answer ≡ refusal_of h → ⊥) (λ t q. n (sym q)) (λ t q. (refusal_above h n).1 q) e)
 
 pub answer_tells : AnswerTells
 unfolding frame_taken

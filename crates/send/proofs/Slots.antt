@@ -1,6 +1,6 @@
 -- The packets in the slots when submit adds one.
 use Rattle.std.proofs.Common.{◌≡◌, refl, ap, ◌∙◌, Bool, true, false, List, ℕ, ◌%◌, ◌*◌, ◌≤◌, ◌<◌, zero-mul, one-mul, arith, eqb-true, length, take, drop, get_or-set_same, get_or-set_other, eqb}
-use borrow.Author.Tests.{eqb-false}
+use Rattle.std.proofs.lemmas.Bool.{eqb-false}
 use Rattle.base.specs.Buffer.{put}
 use Rattle.base.proofs.Put.{put_in, put_before, put_behind}
 use Rattle.state.specs.declared.Link.{Link}

@@ -1,8 +1,8 @@
 -- The tests of the state as plain facts, and back.
-use Rattle.std.proofs.Common.{◌≡◌, ℕ, zero, suc, ◌+◌, ◌*◌, ◌%◌, ◌<◌, ◌≤◌, Bool, true, false, cond, ◌&&◌, ◌||◌, eqb, ltb, leb, List, get_or, refl, ap, mul-le-mul_right, mod-lt, suc-mul, arith, ltb-false, ltb-true, le-ltb, eq-eqb, eqb-true, le-leb, leb-true}
-use borrow.Author.Tests.{eqb-false}
+use Rattle.std.proofs.Common.{◌≡◌, ℕ, zero, suc, ◌+◌, ◌*◌, ◌%◌, ◌<◌, ◌≤◌, Bool, true, false, cond, ◌||◌, eqb, ltb, leb, List, get_or, refl, ap, mul-le-mul_right, mod-lt, suc-mul, arith, ltb-false, ltb-true, le-ltb, eq-eqb, eqb-true, le-leb, leb-true}
+use Rattle.std.proofs.lemmas.Bool.{eqb-false, and_parts, or_parts, cond_both}
 use Rattle.base.specs.Answer.{done, out_of_range, short_buffer, link_lost}
-use Rattle.base.proofs.Tests.{and_left, and_right, or_right, or_left_false, or_right_false, cond_cases, within_low, within_high, passed, spared, first_refusal_left, first_refusal_right, first_refusal_below}
+use Rattle.base.proofs.Tests.{or_right, within_low, within_high, passed, spared, first_refusal_left, first_refusal_right, first_refusal_below}
 use Rattle.frame.specs.Bytes.{high_first}
 use Rattle.state.specs.declared.Settings.{Settings}
 use Rattle.state.specs.declared.Link.{Link}
@@ -26,8 +26,8 @@ in_range_facts s e =
       window_hi = omega (arith, within_high 1 s.window _ r.window);
       transtimeout_lo = within_low 2 s.transtimeout _ r.transtimeout;
       transtimeout_hi = within_high 2 s.transtimeout _ r.transtimeout;
-      acktimeout_lo = leb-true 1 s.acktimeout (and_left (leb 1 s.acktimeout) (ltb s.acktimeout s.transtimeout) r.acktimeout);
-      acktimeout_hi = ltb-true s.acktimeout s.transtimeout (and_right (leb 1 s.acktimeout) (ltb s.acktimeout s.transtimeout) r.acktimeout);
+      acktimeout_lo = leb-true 1 s.acktimeout (and_parts _ _ r.acktimeout).0;
+      acktimeout_hi = ltb-true s.acktimeout s.transtimeout (and_parts _ _ r.acktimeout).1;
       repeats_lo = within_low 1 s.repeats _ r.repeats;
       repeats_hi = within_high 1 s.repeats _ r.repeats;
       order_hi = leb-true s.format.order high_first r.order;
@@ -75,26 +75,20 @@ record Numbers (l : Link) : Type 0 where
 numbers : (l : Link) → numbers_ok l ≡ true → Numbers l
 unfolding numbers_ok
 numbers l e =
-    let n = leb l.next 3 in
-    let x = leb l.expected 3 in
-    let w = leb l.waiting l.settings.window in
-    let a = ltb l.waiting 1 || length_ok l (sent_before l 0) in
-    let b = ltb l.waiting 2 || length_ok l (sent_before l 1) in
-    let c = leb (get_or l.repeated 0 0) l.settings.repeats in
-    let d = leb (get_or l.repeated 1 0) l.settings.repeats in
-    let e6 : (n && x && w && a && b && c) ≡ true = and_left (n && x && w && a && b && c) d e in
-    let e5 : (n && x && w && a && b) ≡ true = and_left (n && x && w && a && b) c e6 in
-    let e4 : (n && x && w && a) ≡ true = and_left (n && x && w && a) b e5 in
-    let e3 : (n && x && w) ≡ true = and_left (n && x && w) a e4 in
-    let e2 : (n && x) ≡ true = and_left (n && x) w e3 in
+    let e7 = and_parts _ _ e in
+    let e6 = and_parts _ _ e7.0 in
+    let e5 = and_parts _ _ e6.0 in
+    let e4 = and_parts _ _ e5.0 in
+    let e3 = and_parts _ _ e4.0 in
+    let e2 = and_parts _ _ e3.0 in
     record {
-      next = and_left n x e2;
-      expected = and_right n x e2;
-      waiting = and_right (n && x) w e3;
-      newest = and_right (n && x && w) a e4;
-      older = and_right (n && x && w && a) b e5;
-      count0 = and_right (n && x && w && a && b) c e6;
-      count1 = and_right (n && x && w && a && b && c) d e;
+      next = e2.0;
+      expected = e2.1;
+      waiting = e3.1;
+      newest = e4.1;
+      older = e5.1;
+      count0 = e6.1;
+      count1 = e7.1;
     }
 
 -- what waits in a window of at most two is the newest or the one before
@@ -111,8 +105,8 @@ both_repeated l f (suc (suc i)) h = absurd (omega arith)
 pub well_formed_facts : (l : Link) → well_formed l ≡ true → Formed l
 unfolding well_formed
 well_formed_facts l e =
-    let s : InRange l.settings = in_range_facts l.settings (and_left (in_range l.settings) (numbers_ok l) e) in
-    let f : Numbers l = numbers l (and_right (in_range l.settings) (numbers_ok l) e) in
+    let s : InRange l.settings = in_range_facts l.settings (and_parts _ _ e).0 in
+    let f : Numbers l = numbers l (and_parts _ _ e).1 in
     record {
       settings = s;
       next = leb-true l.next 3 f.next;
@@ -154,8 +148,8 @@ entry_of_facts l slots frame e =
     let enough : short ≡ false = spared short short_buffer (omega arith) (first_refusal_right one two e) in
     record {
       formed = well_formed_facts l (passed (well_formed l) out_of_range (omega arith) (first_refusal_left one two e));
-      slots_room = ltb-false slots (slots_need l.settings) (or_left_false (ltb slots (slots_need l.settings)) (ltb frame (frame_need l.settings)) enough);
-      frame_room = ltb-false frame (frame_need l.settings) (or_right_false (ltb slots (slots_need l.settings)) (ltb frame (frame_need l.settings)) enough);
+      slots_room = ltb-false slots (slots_need l.settings) (or_parts _ _ enough).0;
+      frame_room = ltb-false frame (frame_need l.settings) (or_parts _ _ enough).1;
     }
 
 pub gate_of_facts : (l : Link) (slots frame : ℕ) → gate_of l slots frame ≡ done → Open l slots frame
@@ -172,9 +166,9 @@ unfolding gate_of entry_of
 gate_of_below l slots frame =
     first_refusal_below 3 (entry_of l slots frame) (cond l.lost link_lost done)
     (first_refusal_below 3 (cond (well_formed l) done out_of_range) (cond short short_buffer done)
-    (cond_cases (λ k. k ≤ 3) (well_formed l) done out_of_range (λ e. omega arith) (λ e. omega arith))
-    (cond_cases (λ k. k ≤ 3) short short_buffer done (λ e. omega arith) (λ e. omega arith)))
-    (cond_cases (λ k. k ≤ 3) l.lost link_lost done (λ e. omega arith) (λ e. omega arith))
+    (cond_both (well_formed l) done out_of_range (λ k. k ≤ 3) (λ e. omega arith) (λ e. omega arith))
+    (cond_both short short_buffer done (λ k. k ≤ 3) (λ e. omega arith) (λ e. omega arith)))
+    (cond_both l.lost link_lost done (λ k. k ≤ 3) (λ e. omega arith) (λ e. omega arith))
   where
     short : Bool
     short = ltb slots (slots_need l.settings) || ltb frame (frame_need l.settings)
@@ -192,7 +186,7 @@ open_usable l slots frame o =
 pub gated_cases : (P : After Outcome → Type 0) (g : ℕ) (l : Link) (slots frame : List ℕ) (inside : After Outcome) → (g ≡ done → P inside)
     → ((g ≡ done → ⊥) → P (refused l g slots frame)) → P (gated g l slots frame inside)
 gated_cases P g l slots frame inside opened shut =
-    cond_cases P (eqb g done) inside (refused l g slots frame) (λ e. opened (eqb-true g done e)) (λ e. shut (eqb-false g done e))
+    cond_both (eqb g done) inside (refused l g slots frame) P (λ e. opened (eqb-true g done e)) (λ e. shut (eqb-false g done e))
 
 pub gated_open : (g : ℕ) (l : Link) (slots frame : List ℕ) (inside : After Outcome) → g ≡ done → gated g l slots frame inside ≡ inside
 gated_open g l slots frame inside e = rw (eq-eqb g done e)

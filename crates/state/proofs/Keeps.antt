@@ -1,7 +1,7 @@
 -- Which changes keep a sound state sound, and that start and resynchronise do.
 use Rattle.std.proofs.Common.{◌≡◌, ℕ, zero, suc, ◌<◌, ◌≤◌, Bool, true, false, cond, not, ltb, List, length, get_or, refl, ◌∙◌, arith, le-ltb}
 use Rattle.base.specs.Answer.{done, out_of_range, short_buffer, link_lost}
-use Rattle.base.proofs.Tests.{cond_false}
+use Rattle.std.proofs.lemmas.Bool.{cond-false}
 use Rattle.state.specs.declared.Settings.{Settings}
 use Rattle.state.specs.declared.Link.{Link}
 use Rattle.state.specs.declared.Outcome.{Outcome}
@@ -85,7 +85,7 @@ sound_gate l slots frame s h k = rw (s.formed, le-ltb slots (slots_need l.settin
 
 pub sound_open : (l : Link) (slots frame : ℕ) → Sound l → l.lost ≡ false → slots_need l.settings ≤ slots → frame_need l.settings ≤ frame
     → gate_of l slots frame ≡ done
-sound_open l slots frame s alive h k = sound_gate l slots frame s h k ∙ cond_false l.lost link_lost done alive
+sound_open l slots frame s alive h k = sound_gate l slots frame s h k ∙ cond-false l.lost link_lost done alive
 
 -- ---- start and resynchronise
 

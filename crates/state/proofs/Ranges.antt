@@ -1,7 +1,7 @@
 -- The test of the settings, clause by clause, and that the facts pass it. The facts themselves are Facts.antt's, which names no bound here.
 use Rattle.std.proofs.Common.{◌≡◌, true, ◌&&◌, ltb, leb, lt-ltb, le-leb}
 use Rattle.base.specs.Range.{within}
-use Rattle.base.proofs.Tests.{and_left, and_right}
+use Rattle.std.proofs.lemmas.Bool.{and_parts}
 use Rattle.frame.specs.Bytes.{high_first}
 use Rattle.state.specs.declared.Settings.{Settings}
 use Rattle.state.specs.Bounds.{in_range}
@@ -19,23 +19,18 @@ pub record Ranges (s : Settings) : Type 0 where
 pub ranges : (s : Settings) → in_range s ≡ true → Ranges s
 unfolding in_range
 ranges s e =
-    let d = within 16 s.format.d 1024 in
-    let w = within 1 s.window 2 in
-    let t = within 2 s.transtimeout 1000 in
-    let a = leb 1 s.acktimeout && ltb s.acktimeout s.transtimeout in
-    let r = within 1 s.repeats 4 in
-    let o = leb s.format.order high_first in
-    let e5 : (d && w && t && a && r) ≡ true = and_left (d && w && t && a && r) o e in
-    let e4 : (d && w && t && a) ≡ true = and_left (d && w && t && a) r e5 in
-    let e3 : (d && w && t) ≡ true = and_left (d && w && t) a e4 in
-    let e2 : (d && w) ≡ true = and_left (d && w) t e3 in
+    let e6 = and_parts _ _ e in
+    let e5 = and_parts _ _ e6.0 in
+    let e4 = and_parts _ _ e5.0 in
+    let e3 = and_parts _ _ e4.0 in
+    let e2 = and_parts _ _ e3.0 in
     record {
-      d = and_left d w e2;
-      window = and_right d w e2;
-      transtimeout = and_right (d && w) t e3;
-      acktimeout = and_right (d && w && t) a e4;
-      repeats = and_right (d && w && t && a) r e5;
-      order = and_right (d && w && t && a && r) o e;
+      d = e2.0;
+      window = e2.1;
+      transtimeout = e3.1;
+      acktimeout = e4.1;
+      repeats = e5.1;
+      order = e6.1;
     }
 
 pub facts_in_range : (s : Settings) → InRange s → in_range s ≡ true

@@ -1,6 +1,6 @@
 -- The wrong time left of specs/FalseTimes.antt, tried at one state that code can hold, by computing.
 use Rattle.std.proofs.Common.{ℕ, false, [], ◌∷◌, refl, ap}
-use borrow.Author.Tests.{eqb-false}
+use Rattle.std.proofs.lemmas.Bool.{eqb-false}
 use Rattle.state.specs.declared.Link.{Link}
 use Rattle.state.specs.Timer.{time_left}
 use Rattle.state.specs.FalseTimes.{OlderCounts}
