@@ -38,7 +38,7 @@ number_tells h k n e = sym (case_of_told k (λ d. n (sym e ∙ d))) ∙ ap case_
 
 -- ---- the reason
 
--- one of two tests passes, and brings its own
+-- one of two tests passes, and brings its own; std's `or_cases` says which passes, and brings nothing
 either : {A B : Type 0} (a b : Bool) → (a || b) ≡ true → (a ≡ true → A) → (b ≡ true → B) → A ⊎ B
 either true b e left right = inl (left refl)
 either false b e left right = inr (right e)

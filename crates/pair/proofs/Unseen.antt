@@ -1,5 +1,5 @@
 -- The links of specs/FalseCalls.antt that demand 3, or a half of it, does not see.
-use Rattle.std.proofs.Common.{◌≡◌, refl, sym, ap, subst, ◌∙◌, true, false, List, [], ◌∷◌, append-nil, ℕ, ◌+◌, ◌≤◌, arith, ne_eqb, length, take, drop, take_at, eqb}
+use Rattle.std.proofs.Common.{◌≡◌, refl, sym, ap, subst, ◌∙◌, true, false, List, [], ◌∷◌, append-nil, ℕ, ◌+◌, ◌≤◌, add-zero, arith, ne_eqb, length, take, drop, take_at, eqb}
 use Rattle.base.specs.Answer.{done}
 use Rattle.base.specs.Buffer.{put}
 use Rattle.fcs.specs.Checksum.{checksum_of}
@@ -168,16 +168,13 @@ module _ (answer : ℕ) (no : answer ≡ done → ⊥) where
 
 -- ---- drop counts
 
-no_more : (n : ℕ) → n + 0 ≡ n
-no_more n = omega arith
-
 drops : (dropped : ℕ) → with_take (inventing 0 dropped) ≡ true_calls
 drops dropped = λ i. record {
   seen = true_calls.seen;
   fresh = true_calls.fresh;
   submit = true_calls.submit;
   take = λ l slots frame ms received. let right : After Outcome = frame_taken l slots frame ms received in
-      after (record { state = right.told.state; sent = right.told.sent; delivered = no_more right.told.delivered i; answer = right.told.answer }) right.slots right.frame;
+      after (record { state = right.told.state; sent = right.told.sent; delivered = add-zero right.told.delivered i; answer = right.told.answer }) right.slots right.frame;
   look = true_calls.look;
   acknowledge = true_calls.acknowledge;
   resynchronise = true_calls.resynchronise;
