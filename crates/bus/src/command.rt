@@ -1,6 +1,7 @@
 // A line's command: docs/BUS.md.
 use ends::Side;
 use state::Settings;
+use text::fields;
 use text::fields::Fields;
 use text::settings;
 
@@ -94,9 +95,5 @@ fn of_word<'a>(word: &[u8], fields: &mut Fields<'a>, room: &'a mut [u8]) -> Opti
 
 // The line's command, its bytes laid in `room`; none where it is no command.
 pub fn read<'a>(line: &'a [u8], room: &'a mut [u8]) -> Option<Command<'a>> {
-    let mut fields = Fields::of(line);
-    let word = fields.word()?;
-    let command = of_word(word, &mut fields, room)?;
-    fields.end()?;
-    Some(command)
+    fields::read(line, room, of_word)
 }

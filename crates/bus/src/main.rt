@@ -12,18 +12,12 @@ mod words;
 
 use std::io;
 use story::Story;
-use text::line::Lines;
+use text::line;
 use text::page::Page;
 
 fn main(rt: HostRuntime) -> io::Result<()> {
     let mut source = rt.stdin();
-    let mut lines = Lines::new();
     let mut story = Story::new(Page::new(rt.stdout()));
-    for number in 1..=u64::MAX {
-        let Some(line) = lines.next(&mut source)? else {
-            break;
-        };
-        story.obey(number, line)?;
-    }
+    line::each(&mut source, |number, line| story.obey(number, line))?;
     story.tell_ending()
 }

@@ -10,8 +10,9 @@ use chaining::Joint;
 use linking::End;
 use std::io;
 use std::io::{Read, Write};
-use text::fields::Fields;
-use text::line::{Line, Lines};
+use text::fields::{Fields, read};
+use text::line;
+use text::line::Line;
 use text::page::Page;
 
 // The most bytes of a field.
@@ -21,20 +22,6 @@ const MOST_BYTES: usize = 8192;
 fn flag(fields: &mut Fields<'_>) -> Option<bool> {
     let number = fields.number_up_to(1)?;
     Some(number == 1)
-}
-
-// What the line asks for, if it is one of the commands that are read.
-fn read<'a, C, R>(line: &[u8], room: &'a mut [u8], read_command: R) -> Option<C>
-where
-    C: Drop,
-    R: Fn(&[u8], &mut Fields<'_>, &'a mut [u8]) -> Option<C>,
-    requires { R.IsAlwaysCallable read_command }
-{
-    let mut fields = Fields::of(line);
-    let word = fields.word()?;
-    let command = read_command(word, &mut fields, room)?;
-    fields.end()?;
-    Some(command)
 }
 
 // What stands behind a line that is printed again: a call's is followed by what it gives.
@@ -99,15 +86,7 @@ impl Session {
 // Reads a script and writes what its lines give; worked (R10.13): each line again, with what it
 // gives behind an arrow.
 pub fn run(source: &mut impl Read, to: &mut impl Write, is_worked: bool) -> io::Result<()> {
-    let mut lines = Lines::new();
     let mut page = Page::new(to);
     let mut session = Session::new(is_worked);
-    // Nothing says that the input ends, but no run uses up the numbers.
-    for number in 1..u64::MAX {
-        let Some(line) = lines.next(source)? else {
-            return Ok(());
-        };
-        session.obey(&mut page, number, line)?;
-    }
-    Ok(())
+    line::each(source, |number, line| session.obey(&mut page, number, line))
 }

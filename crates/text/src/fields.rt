@@ -1,5 +1,5 @@
 // The fields of a line: words apart by one space each.
-ghost use Rattle.std.specs.Prelude.{◌≡◌, ◌≤◌, ◌↔◌, length, IsSome, IsNone, IfSome};
+ghost use Rattle.std.specs.Prelude.{◌≡◌, ◌≤◌, ◌↔◌, length, IsSome, IsNone, Some, IfSome};
 
 use memchr::memchr;
 use std::num::TryFromIntError;
@@ -103,4 +103,19 @@ impl<'a> Fields<'a> {
     {
         self.rest.is_none().then_some(())
     }
+}
+
+// What a line asks for, as `read_command` reads its first word and the fields behind it, with room for their bytes; none where one is left.
+pub fn read<'a, C, R>(line: &'a [u8], room: &'a mut [u8], read_command: R) -> Option<C>
+where
+    C: Drop,
+    R: Fn(&'a [u8], &mut Fields<'a>, &'a mut [u8]) -> Option<C>,
+    requires { R.IsAlwaysCallable read_command }
+    ensures { IfSome result (λ c. (w : _) × (f : _) × (r : _) × (left : _) × R.post read_command w f r (Some c) left × IsNone left.now.rest) }
+{
+    let mut fields = Fields::of(line);
+    let word = fields.word()?;
+    let command = read_command(word, &mut fields, room)?;
+    fields.end()?;
+    Some(command)
 }

@@ -136,3 +136,20 @@ impl Lines {
         Ok(Some(line_of(&self.buffer[start..end], is_long)))
     }
 }
+
+// Each line of the input in turn is handed to `follow`, with its number from 1 on, before more is read than it takes.
+pub fn each<F>(source: &mut impl Read, mut follow: F) -> io::Result<()>
+where
+    F: FnMut(u64, Line<'_>) -> io::Result<()>,
+    requires { (state : F) (number : _) (line : _) → 1 ≤ number → Short line → F.pre state number line }
+{
+    let mut lines = Lines::new();
+    // Nothing says that the input ends, but no run uses up the numbers.
+    for number in 1..u64::MAX {
+        let Some(line) = lines.next(source)? else {
+            break;
+        };
+        follow(number, line)?;
+    }
+    Ok(())
+}
