@@ -1,9 +1,8 @@
 // A line's command: docs/BUS.md.
 use ends::Side;
 use state::Settings;
-use text::fields;
 use text::fields::Fields;
-use text::settings;
+use text::{fields, settings};
 
 // Frames are named by their sender, and counted from 1 on.
 #[derive(Clone, Copy)]
