@@ -1,8 +1,9 @@
 // The commands on one joining of messages: their words, their fields, what they do and what they print.
 // A later input goes last among its command's fields, and is 0 where it is absent. A later output goes last in its command's print
 // function.
-use crate::lent::{Lent, UNSENT, UNWRITTEN};
+use crate::lent::{UNSENT, UNWRITTEN, lent};
 use crate::{ARROW, LINE_FEED, flag};
+use arrayvec::ArrayVec;
 use base::buffer::part;
 use chain::{Joined, Joining, Piece};
 use std::io;
@@ -110,7 +111,7 @@ fn write_piece(to: &mut impl Write, p: Piece, packet: &[u8], is_worked: bool) ->
 #[derive(Drop)]
 pub struct Joint {
     joining: Joining,
-    room: Lent<ROOM>,
+    room: ArrayVec<u8, ROOM>,
 }
 
 impl Joint {
@@ -118,7 +119,7 @@ impl Joint {
     pub fn new() -> Self {
         Joint {
             joining: chain::fresh_joining(),
-            room: Lent::new(UNWRITTEN, 0),
+            room: ArrayVec::new(),
         }
     }
 
@@ -129,9 +130,9 @@ impl Joint {
         packet: &[u8],
         is_worked: bool,
     ) -> io::Result<()> {
-        let j = chain::join(m, self.joining, packet, self.room.bytes_mut());
+        let j = chain::join(m, self.joining, packet, self.room.as_mut_slice());
         self.joining = j.state;
-        write_joined(to, j, self.room.bytes(), is_worked)
+        write_joined(to, j, self.room.as_slice(), is_worked)
     }
 
     // Does what the command says.
@@ -144,11 +145,11 @@ impl Joint {
                 size,
                 message,
             } => {
-                let mut packet = Lent::<PACKET>::new(UNSENT, size);
-                let p = chain::cut(m, message, i, packet.bytes_mut());
-                return write_piece(to, p, packet.bytes(), is_worked);
+                let mut packet = lent::<PACKET>(UNSENT, size);
+                let p = chain::cut(m, message, i, packet.as_mut_slice());
+                return write_piece(to, p, packet.as_slice(), is_worked);
             }
-            Command::Room(size) => self.room = Lent::new(UNWRITTEN, size),
+            Command::Room(size) => self.room = lent(UNWRITTEN, size),
             Command::Joining(joining) => self.joining = joining,
         }
         Ok(())

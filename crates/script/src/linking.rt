@@ -1,7 +1,8 @@
 // The commands on one end of the link: their words, their fields, what they do and what they print.
 // A later input goes last among its command's fields, and is 0 where it is absent. A later output goes last in print, behind the frame.
-use crate::lent::{Lent, UNSENT, UNWRITTEN};
+use crate::lent::{UNSENT, UNWRITTEN, lent};
 use crate::{ARROW, LINE_FEED, flag};
+use arrayvec::ArrayVec;
 use base::buffer::part;
 use state::{Link, Outcome, Settings};
 use std::io;
@@ -173,7 +174,7 @@ fn received(c: Call<'_>) -> &[u8] {
 #[derive(Drop)]
 pub struct End {
     link: Link,
-    slots: Lent<BUFFER>,
+    slots: ArrayVec<u8, BUFFER>,
     frame: usize,
 }
 
@@ -182,14 +183,14 @@ impl End {
     pub fn new() -> Self {
         End {
             link: state::zero_state(),
-            slots: Lent::new(UNWRITTEN, 0),
+            slots: ArrayVec::new(),
             frame: 0,
         }
     }
 
     fn make(&mut self, c: Call<'_>, frame: &mut [u8]) -> Outcome {
         let l = self.link;
-        let slots = self.slots.bytes_mut();
+        let slots = self.slots.as_mut_slice();
         match c {
             Call::Start(settings) => link::start(settings, slots),
             Call::Submit { ms, packet } => link::submit(l, slots, frame, ms, packet),
@@ -201,13 +202,13 @@ impl End {
     }
 
     fn call(&mut self, to: &mut impl Write, c: Call<'_>, is_worked: bool) -> io::Result<()> {
-        let mut frame = Lent::<BUFFER>::new(UNSENT, self.frame);
-        let o = self.make(c, frame.bytes_mut());
+        let mut frame = lent::<BUFFER>(UNSENT, self.frame);
+        let o = self.make(c, frame.as_mut_slice());
         self.link = o.state;
         if is_worked {
-            return write_worked(to, o, received(c), frame.bytes());
+            return write_worked(to, o, received(c), frame.as_slice());
         }
-        write_all(to, o, self.slots.bytes(), frame.bytes())
+        write_all(to, o, self.slots.as_slice(), frame.as_slice())
     }
 
     // Does what the command says.
@@ -215,7 +216,7 @@ impl End {
         match c {
             Command::Call(call) => return self.call(to, call, is_worked),
             Command::Lend { slots, frame } => {
-                self.slots = Lent::new(UNWRITTEN, slots);
+                self.slots = lent(UNWRITTEN, slots);
                 self.frame = frame;
             }
             Command::State(link) => self.link = link,

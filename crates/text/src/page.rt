@@ -1,8 +1,9 @@
 // Text for output.
 ghost use Rattle.std.specs.Prelude.{◌≡◌, ◌+◌, ◌≤◌, OnOk, length};
+ghost use Rattle.arrayvec.specs.ArrayVec.{array_vec_len};
 ghost use Rattle.std.specs.Io.KnownBytes.{Keeps, Appends};
 
-use base::buffer::copy_at;
+use arrayvec::ArrayVec;
 use std::fmt::Formatter;
 use std::io::Write;
 use std::{fmt, io};
@@ -15,9 +16,7 @@ const LINE: usize = 8192;
 #[derive(Drop)]
 pub struct Page<W> {
     to: W,
-    line: [u8; LINE],
-    length: usize,
-    ghost fits: { length ≤ 8192 },
+    line: ArrayVec<u8, LINE>,
 }
 
 impl<W: Write> Page<W> {
@@ -25,41 +24,39 @@ impl<W: Write> Page<W> {
 
     pub fn new(to: W) -> Self
         ensures to { result.to ≡ to }
-        ensures empty { result.length ≡ 0 }
+        ensures empty { array_vec_len result.line ≡ 0 }
     {
         Page {
             to,
-            line: [0; LINE],
-            length: 0,
+            line: ArrayVec::new(),
         }
     }
 
     fn write_out(&mut self) -> io::Result<()>
-        ensures empty { OnOk result (self.new.length ≡ 0) }
+        ensures empty { OnOk result (array_vec_len self.new.line ≡ 0) }
         ensures bytes { OnOk result (Keeps (laid W.contents self.old) (laid W.contents self.new)) }
     {
-        self.to.write_all(&self.line[..self.length])?;
-        self.length = 0;
+        self.to.write_all(self.line.as_slice())?;
+        self.line.clear();
         Ok(())
     }
 
     fn make_room(&mut self, count: usize) -> io::Result<()>
         requires { count ≤ 8192 }
-        ensures room { OnOk result (self.new.length + count ≤ 8192) }
+        ensures room { OnOk result (array_vec_len self.new.line + count ≤ 8192) }
         ensures bytes { OnOk result (Keeps (laid W.contents self.old) (laid W.contents self.new)) }
     {
-        if LINE - self.length < count {
+        if self.line.remaining_capacity() < count {
             return self.write_out();
         }
         Ok(())
     }
 
     fn lay(&mut self, text: &[u8])
-        requires { self.old.length + length text.now ≤ 8192 }
+        requires { array_vec_len self.old.line + length text.now ≤ 8192 }
         ensures { Appends (laid W.contents self.old) (laid W.contents self.new) text.now }
     {
-        copy_at(&mut self.line, self.length, text);
-        self.length += text.len();
+        let _ = self.line.try_extend_from_slice(text);
     }
 }
 
