@@ -74,6 +74,7 @@ fn main(rt: HostRuntime) -> io::Result<()> {
     let mut desk = End::start();
     desk.renew(ms);
     let mut incoming = Incoming::new();
+    // Stays: a count of turns, more than the loan takes; there is nothing to go through.
     for _ in 0..60 {
         tell_turn(&mut page, "desk", ms, desk.last)?;
         let to_chip = carried(&mut page, desk.sent(), ms)?;

@@ -135,10 +135,9 @@ impl Joint {
         write_joined(to, j, self.room.as_slice(), is_worked)
     }
 
-    // Does what the command says.
     pub fn obey(&mut self, to: &mut impl Write, c: Command<'_>, is_worked: bool) -> io::Result<()> {
         match c {
-            Command::Join { m, packet } => return self.join(to, m, packet, is_worked),
+            Command::Join { m, packet } => self.join(to, m, packet, is_worked),
             Command::Cut {
                 m,
                 i,
@@ -147,11 +146,16 @@ impl Joint {
             } => {
                 let mut packet = lent::<PACKET>(UNSENT, size);
                 let p = chain::cut(m, message, i, packet.as_mut_slice());
-                return write_piece(to, p, packet.as_slice(), is_worked);
+                write_piece(to, p, packet.as_slice(), is_worked)
             }
-            Command::Room(size) => self.room = lent(UNWRITTEN, size),
-            Command::Joining(joining) => self.joining = joining,
+            Command::Room(size) => {
+                self.room = lent(UNWRITTEN, size);
+                Ok(())
+            }
+            Command::Joining(joining) => {
+                self.joining = joining;
+                Ok(())
+            }
         }
-        Ok(())
     }
 }

@@ -30,6 +30,7 @@ const ARROW: &[u8] = b" -> ";
 const LINE_FEED: &[u8] = b"\n";
 
 // What goes on from line to line. is_worked: each line is printed again, and what it gives behind it.
+// Stays: what prints takes a writer; a field for it would make the end and the joining generic, and is no plainer.
 #[derive(Drop)]
 struct Session {
     end: End,
@@ -85,6 +86,7 @@ impl Session {
 
 // Reads a script and writes what its lines give; worked (R10.13): each line again, with what it
 // gives behind an arrow.
+// Stays: a bool, as callers give it; an enum made of it here, tried, had more lines, and its tests said no more than this name.
 pub fn run(source: &mut impl Read, to: &mut impl Write, is_worked: bool) -> io::Result<()> {
     let mut page = Page::new(to);
     let mut session = Session::new(is_worked);

@@ -211,16 +211,18 @@ impl End {
         write_all(to, o, self.slots.as_slice(), frame.as_slice())
     }
 
-    // Does what the command says.
     pub fn obey(&mut self, to: &mut impl Write, c: Command<'_>, is_worked: bool) -> io::Result<()> {
         match c {
-            Command::Call(call) => return self.call(to, call, is_worked),
+            Command::Call(call) => self.call(to, call, is_worked),
             Command::Lend { slots, frame } => {
                 self.slots = lent(UNWRITTEN, slots);
                 self.frame = frame;
+                Ok(())
             }
-            Command::State(link) => self.link = link,
+            Command::State(link) => {
+                self.link = link;
+                Ok(())
+            }
         }
-        Ok(())
     }
 }

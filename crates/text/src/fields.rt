@@ -10,21 +10,12 @@ pub struct Fields<'a> {
     rest: Option<&'a [u8]>,
 }
 
-// A number above the largest u64 is read as that one, which is too large for every field.
-fn appended(number: u64, digit: u8) -> u64 {
-    number
-        .saturating_mul(10)
-        .saturating_add(u64::from(digit.saturating_sub(b'0')))
-}
-
+// Digits alone: a sign that `parse` takes is none. A number above the largest u64 is too large for every field.
 fn number_of(word: &[u8]) -> Option<u64> {
-    if word.is_empty() || !word.iter().all(u8::is_ascii_digit) {
+    if !word.iter().all(u8::is_ascii_digit) {
         return None;
     }
-    Some(
-        word.iter()
-            .fold(0, |number, digit| appended(number, *digit)),
-    )
+    str::from_utf8(word).ok()?.parse().ok()
 }
 
 impl<'a> Fields<'a> {

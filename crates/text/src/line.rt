@@ -12,7 +12,7 @@ const INPUT: usize = 65536;
 // A longer line is dropped as it is read.
 pub const LONGEST: usize = 20000;
 
-// More reads than a run has.
+// More reads than a run has. Stays: a count, since a loop needs a measure, and no source promises to end.
 const READS: u64 = u64::MAX;
 
 // A line without its line feed: one that asks for nothing (it is blank or a comment), one of more than LONGEST bytes, or another.
@@ -38,6 +38,7 @@ fn line_of(text: &[u8], is_long: bool) -> Line<'_>
 
 // from, count: which bytes of the buffer have been read and are in no line yet. is_long: the line that they begin is too long, and what
 // was read of it is dropped. is_over: the input has ended.
+// Stays: the bytes lie between two marks; a vector of them has one, and would move its bytes for each line.
 #[derive(Drop)]
 pub struct Lines {
     buffer: [u8; INPUT],
@@ -144,7 +145,7 @@ where
     requires { (state : F) (number : _) (line : _) → 1 ≤ number → Short line → F.pre state number line }
 {
     let mut lines = Lines::new();
-    // Nothing says that the input ends, but no run uses up the numbers.
+    // Nothing says that the input ends, but no run uses up the numbers. Stays: a line is lent, and its read can fail: no Iterator gives such.
     for number in 1..u64::MAX {
         let Some(line) = lines.next(source)? else {
             break;
