@@ -30,10 +30,11 @@ impl<W: Write> Story<W> {
 
     // ---- frames on their way
 
-    // Whether frame n is on its way from that end, from 1 on; where it is not, that is told.
-    fn is_there(&mut self, from: Side, n: usize) -> io::Result<bool> {
-        let is_there = 0 < n && n <= self.ends.end(from.other()).arriving().len();
-        if !is_there {
+    // Where frame n of those on their way from that end, from 1 on, is among them; where it is not there, that is told.
+    fn place(&mut self, from: Side, n: usize) -> io::Result<Option<usize>> {
+        let count = self.ends.end(from.other()).arriving().len();
+        let place = n.checked_sub(1).filter(|&at| at < count);
+        if place.is_none() {
             writeln!(
                 self.to,
                 "[{}] no such frame is on its way from {}",
@@ -41,12 +42,12 @@ impl<W: Write> Story<W> {
                 The(from)
             )?;
         }
-        Ok(is_there)
+        Ok(place)
     }
 
     // Where there are not so many, none is carried.
     pub fn carry(&mut self, from: Side, times: usize) -> io::Result<()> {
-        if self.is_there(from, times)? {
+        if self.place(from, times)?.is_some() {
             for _ in 0..times {
                 self.call(from.other(), Call::Carry)?;
             }
@@ -55,15 +56,15 @@ impl<W: Write> Story<W> {
     }
 
     pub fn lose(&mut self, from: Side, n: usize) -> io::Result<()> {
-        if self.is_there(from, n)? {
-            self.play(Move::Lose(from.other(), n.wrapping_sub(1)), &[])?;
+        if let Some(at) = self.place(from, n)? {
+            self.play(Move::Lose(from.other(), at), &[])?;
         }
         Ok(())
     }
 
     pub fn damage(&mut self, from: Side, n: usize, bytes: &[u8]) -> io::Result<()> {
-        if self.is_there(from, n)? {
-            self.play(Move::Damage(from.other(), n.wrapping_sub(1)), bytes)?;
+        if let Some(at) = self.place(from, n)? {
+            self.play(Move::Damage(from.other(), at), bytes)?;
         }
         Ok(())
     }

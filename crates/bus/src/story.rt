@@ -3,7 +3,7 @@ use crate::book::Book;
 use crate::command;
 use crate::command::Command;
 use crate::reason::Ranges;
-use base::answer::DONE;
+use base::answer::Refusal;
 use ends::Ends;
 use ends::moves::{Call, Move};
 use state::Settings;
@@ -39,12 +39,11 @@ impl<W: Write> Story<W> {
 
     // ---- a pair
 
-    fn tell_start(&mut self, s: Settings, answer: u8) -> io::Result<()> {
+    fn tell_start(&mut self, s: Settings, started: Result<(), Refusal>) -> io::Result<()> {
         write!(self.to, "[{}] the desk and the chip ", self.ends.clock)?;
-        if answer == DONE {
-            write!(self.to, "start")?;
-        } else {
-            write!(self.to, "answer {answer} and do NOT start")?;
+        match started {
+            Ok(()) => write!(self.to, "start")?,
+            Err(refusal) => write!(self.to, "answer {} and do NOT start", refusal.number())?,
         }
         write!(
             self.to,
@@ -62,8 +61,8 @@ impl<W: Write> Story<W> {
     // The story so far has its ending, and another begins.
     fn start(&mut self, s: Settings, clock: u32) -> io::Result<()> {
         self.tell_ending()?;
-        let answer = self.ends.start(s, clock);
-        self.tell_start(s, answer)
+        let started = self.ends.start(s, clock);
+        self.tell_start(s, started)
     }
 
     fn end(&mut self) -> io::Result<()> {

@@ -3,7 +3,7 @@ use crate::bytes::{Bytes, LONGEST};
 use crate::hearing::Hearing;
 use crate::moves::{Call, Event};
 use crate::queue::Queue;
-use base::answer::{DONE, Refusal};
+use base::answer::Refusal;
 use base::buffer::part;
 use state::{Link, Outcome, Settings};
 
@@ -11,16 +11,11 @@ use state::{Link, Outcome, Settings};
 const SLOTS: usize = 2048;
 
 // How many packets an end took and delivered since it was fresh.
-#[derive(Clone, Copy, PartialEq, Eq)]
+#[derive(Clone, Copy, PartialEq, Eq, Default)]
 pub struct Count {
     pub taken: usize,
     pub delivered: usize,
 }
-
-const NONE: Count = Count {
-    taken: 0,
-    delivered: 0,
-};
 
 // dropped: how many of all packets that it ever took a reset has dropped.
 #[derive(Drop)]
@@ -51,6 +46,7 @@ fn freed(waited: u8, took: bool, o: Outcome) -> u8 {
 
 impl End {
     ghost use Rattle.std.specs.Prelude.{◌≡◌};
+    ghost use Rattle.base.specs.Answer.{answer_of};
     ghost use Rattle.ends.specs.Sides.{arriving_at};
     ghost use Rattle.state.specs.Calls.{zeros, started};
 
@@ -59,7 +55,7 @@ impl End {
     {
         End {
             link: state::zero_state(),
-            count: NONE,
+            count: Count::default(),
             dropped: 0,
             slots: [0; SLOTS],
             queue: Queue::new(),
@@ -73,22 +69,26 @@ impl End {
         self.queue.frames()
     }
 
-    // Starts anew, with nothing on its way; gives what the start answers.
-    pub(crate) fn start(&mut self, s: Settings) -> u8
+    // Starts anew, with nothing on its way; gives why the start refuses, where it does.
+    #[tactic(auto, unfolding(state::specs::Calls::started))]
+    pub(crate) fn start(&mut self, s: Settings) -> Result<(), Refusal>
         ensures link { self.new.link ≡ (started s 2048).state }
-        ensures answer { result ≡ (started s 2048).answer }
+        ensures answer { answer_of result ≡ (started s 2048).answer }
     {
         let o = link::start(s, &self.slots);
         self.link = o.state;
-        self.count = NONE;
+        self.count = Count::default();
         self.dropped = 0;
         self.queue.clear();
-        o.answer
+        match Refusal::try_from(o.answer) {
+            Ok(refusal) => Err(refusal),
+            Err(_) => Ok(()),
+        }
     }
 
     // Nothing changes a fresh end but what it takes, what it delivers, and its NAK.
     pub(crate) fn is_ready(&self) -> bool {
-        self.count == NONE && self.arriving().is_empty() && !self.link.nakmark
+        self.count == Count::default() && self.arriving().is_empty() && !self.link.nakmark
     }
 
     // ---- calls
@@ -122,12 +122,13 @@ impl End {
 
     // A packet is delivered from byte 3 of its frame on.
     fn event(&self, call: Call, o: Outcome, frame: &Frame) -> Event {
-        let took = call == Call::Submit && o.answer == DONE;
+        let refusal = Refusal::try_from(o.answer).ok();
+        let took = call == Call::Submit && refusal.is_none();
         Event {
             delivered: some_of(self.next_frame(), 3, o.delivered),
             sent: some_of(frame, 0, o.sent),
             heard: self.hearing(call),
-            refusal: Refusal::try_from(o.answer).ok(),
+            refusal,
             freed: freed(self.link.waiting, took, o),
             dropped: o.dropped,
             is_crowded: false,
@@ -138,7 +139,7 @@ impl End {
     // A call that makes the end fresh takes and delivers nothing.
     fn keep_count(&mut self, call: Call, event: &Event) {
         if event.is_fresh() {
-            self.count = NONE;
+            self.count = Count::default();
             return;
         }
         if call == Call::Submit && event.refusal.is_none() {

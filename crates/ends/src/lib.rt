@@ -10,7 +10,7 @@ mod queue;
 pub mod rounds;
 pub mod stretch;
 
-use base::answer::DONE;
+use base::answer::Refusal;
 use end::End;
 use moves::{Call, Event, Move};
 pub use queue::PLACES;
@@ -57,6 +57,7 @@ fn exchange(here: &mut End, there: &mut End, call: Call, ms: u32, packet: &[u8])
 
 impl Ends {
     ghost use Rattle.std.specs.Prelude.{◌≡◌, ◌↔◌, IsSome};
+    ghost use Rattle.base.specs.Answer.{answer_of};
     ghost use Rattle.ends.specs.Sides.{end_at};
     ghost use Rattle.ends.specs.Moves.{clock_after, IsCall};
     ghost use Rattle.state.specs.Calls.{zeros, started};
@@ -85,17 +86,17 @@ impl Ends {
         }
     }
 
-    // Starts both ends with these settings, nothing on its way between them, and gives what both answer: where a setting is out of range
-    // they are zeros, and answer so to every call.
-    pub fn start(&mut self, s: Settings, clock: u32) -> u8
+    // Starts both ends with these settings, nothing on its way between them. Where a setting is out of range both refuse: they are zeros,
+    // and answer so to every call.
+    pub fn start(&mut self, s: Settings, clock: u32) -> Result<(), Refusal>
         ensures desk { self.new.desk.link ≡ (started s 2048).state }
         ensures chip { self.new.chip.link ≡ (started s 2048).state }
-        ensures answer { result ≡ (started s 2048).answer }
+        ensures answer { answer_of result ≡ (started s 2048).answer }
         ensures clock { self.new.clock ≡ clock }
     {
-        self.chip.start(s);
-        let answer = self.desk.start(s);
-        self.stretch = if answer == DONE {
+        let _ = self.chip.start(s);
+        let started = self.desk.start(s);
+        self.stretch = if started.is_ok() {
             Stretch::first()
         } else {
             Stretch::unset()
@@ -103,7 +104,7 @@ impl Ends {
         self.passed = 0;
         self.rounds = 0;
         self.clock = clock;
-        answer
+        started
     }
 
     // Behind a move, by which an end may have become fresh.
