@@ -1,8 +1,10 @@
 // What a story keeps beside the ends: the packets that each end took and delivered since it was fresh. How many they are is what the end
 // has counted.
+use ends::PLACES;
 use ends::bytes::Bytes;
-use ends::{PLACES, Side};
+use ends::pair::Pair;
 
+// Stays: an array alone, for the end counts its packets; a count here would be a second one to keep with it.
 #[derive(Drop)]
 pub struct Shelf {
     packets: [Bytes; PLACES],
@@ -45,31 +47,12 @@ impl Shelves {
     }
 }
 
-#[derive(Drop)]
-pub struct Book {
-    desk: Shelves,
-    chip: Shelves,
-}
+// What an end took, and what it delivered.
+pub type Book = Pair<Shelves>;
 
-impl Book {
-    pub fn new() -> Book {
-        Book {
-            desk: Shelves::new(),
-            chip: Shelves::new(),
-        }
-    }
-
-    pub fn of(&self, side: Side) -> &Shelves {
-        match side {
-            Side::Desk => &self.desk,
-            Side::Chip => &self.chip,
-        }
-    }
-
-    pub fn of_mut(&mut self, side: Side) -> &mut Shelves {
-        match side {
-            Side::Desk => &mut self.desk,
-            Side::Chip => &mut self.chip,
-        }
+pub fn empty() -> Book {
+    Pair {
+        desk: Shelves::new(),
+        chip: Shelves::new(),
     }
 }

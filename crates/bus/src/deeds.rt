@@ -15,7 +15,7 @@ use text::page::Quoted;
 
 // Frame n of those on their way to the end; both ends have the same settings.
 fn nth_frame(ends: &Ends, to: Side, n: usize) -> Frame<'_> {
-    let end = ends.end(to);
+    let end = ends.pair.of(to);
     let bytes = match end.arriving().get(n) {
         Some(frame) => frame.as_slice(),
         None => &[],
@@ -91,7 +91,7 @@ impl<W: Write> Story<W> {
 
     // size: how many bytes a submit was handed.
     fn tell_event(&mut self, event: &Event, size: usize) -> io::Result<()> {
-        let settings = self.ends.desk.link.settings;
+        let settings = self.ends.pair.desk.link.settings;
         let came = Came(Answer {
             event,
             settings,
@@ -102,7 +102,7 @@ impl<W: Write> Story<W> {
 
     // The promises speak of damage that step 1 refuses; here any will do, and other is told as a forgery.
     fn tell_damage(&mut self, bytes: &[u8]) -> io::Result<()> {
-        let format = self.ends.desk.link.settings.format;
+        let format = self.ends.pair.desk.link.settings.format;
         if LONGEST < bytes.len() {
             write!(self.to, " stays: no frame has over {LONGEST} bytes")?;
         } else {
@@ -128,8 +128,8 @@ impl<W: Write> Story<W> {
     // ---- the move
 
     // What the end took or delivered, which had counted so many before.
-    fn keep(&mut self, side: Side, call: Call, event: &Event, before: Part, packet: &[u8]) {
-        let count = before.count(side);
+    fn keep(&mut self, side: Side, call: Call, event: &Event, before: &Part, packet: &[u8]) {
+        let count = before.counts.of(side);
         let shelves = self.book.of_mut(side);
         if call == Call::Submit && event.refusal.is_none() {
             shelves.taken.put(count.taken, packet);
@@ -146,10 +146,10 @@ impl<W: Write> Story<W> {
         match (m, self.ends.make(m, bytes)) {
             (Move::Call(side, call), Some(event)) => {
                 self.tell_event(&event, bytes.len())?;
-                self.keep(side, call, &event, before, bytes);
+                self.keep(side, call, &event, &before, bytes);
             }
             _ => self.tell_outcome(m, bytes)?,
         }
-        self.tell_turn(before)
+        self.tell_stretch(&before)
     }
 }

@@ -3,6 +3,7 @@ use crate::story::Story;
 use crate::words::{State, The, Waiting};
 use ends::bytes::Bytes;
 use ends::end::Count;
+use ends::pair::Pair;
 use ends::stretch::{Phase, Stretch};
 use ends::{Ends, Side};
 use std::io;
@@ -11,26 +12,20 @@ use text::heard::Frame;
 use text::page::Quoted;
 
 // What a stretch came to so far, or what is behind it.
-#[derive(Clone, Copy)]
+#[derive(Drop)]
 pub struct Part {
     stretch: Stretch,
-    desk: Count,
-    chip: Count,
+    pub counts: Pair<Count>,
 }
 
 impl Part {
     pub fn of(ends: &Ends) -> Part {
         Part {
             stretch: ends.stretch,
-            desk: ends.desk.count,
-            chip: ends.chip.count,
-        }
-    }
-
-    pub fn count(self, side: Side) -> Count {
-        match side {
-            Side::Desk => self.desk,
-            Side::Chip => self.chip,
+            counts: Pair {
+                desk: ends.pair.desk.count,
+                chip: ends.pair.chip.count,
+            },
         }
     }
 }
@@ -48,7 +43,7 @@ fn are_same(some: &[Bytes], others: &[Bytes]) -> bool {
 
 // Tells the end, and what is on its way to it.
 fn show(to: &mut impl Write, ends: &Ends, side: Side) -> io::Result<()> {
-    let end = ends.end(side);
+    let end = ends.pair.of(side);
     let clock = ends.clock;
     writeln!(to, "[{clock}] {}: {}", The(side), State(end))?;
     let format = end.link.settings.format;
@@ -67,8 +62,8 @@ fn tell_rest(to: &mut impl Write, ends: &Ends) -> io::Result<()> {
     writeln!(
         to,
         "waiting at the desk: {}, at the chip: {}",
-        Waiting(&ends.desk),
-        Waiting(&ends.chip)
+        Waiting(&ends.pair.desk),
+        Waiting(&ends.pair.chip)
     )?;
     let (rounds, passed) = (ends.rounds, ends.passed);
     writeln!(to, "timer rounds: {rounds}, milliseconds: {passed}")
@@ -120,10 +115,10 @@ impl<W: Write> Story<W> {
     }
 
     // What the end got of what the other took.
-    fn tell_got(&mut self, part: Part, side: Side) -> io::Result<()> {
+    fn tell_got(&mut self, part: &Part, side: Side) -> io::Result<()> {
         let sender = side.other();
-        let got = part.count(side).delivered;
-        let taken = part.count(sender).taken;
+        let got = part.counts.of(side).delivered;
+        let taken = part.counts.of(sender).taken;
         let is_same = self.is_same(side, got, taken);
         let phase = part.stretch.phase;
         let (before, behind) = words_of_got(phase, is_same);
@@ -144,7 +139,7 @@ impl<W: Write> Story<W> {
         Ok(())
     }
 
-    fn tell_part(&mut self, part: Part) -> io::Result<()> {
+    fn tell_part(&mut self, part: &Part) -> io::Result<()> {
         if let Some((before, behind)) = heading(part.stretch.phase) {
             writeln!(self.to, "{before}{}{behind}", part.stretch.number)?;
         }
@@ -153,7 +148,7 @@ impl<W: Write> Story<W> {
     }
 
     // Tells what a stretch came to where a move has made an end of it, which takes and delivers nothing; and where another begins.
-    pub fn tell_turn(&mut self, before: Part) -> io::Result<()> {
+    pub fn tell_stretch(&mut self, before: &Part) -> io::Result<()> {
         let after = self.ends.stretch;
         let is_other = before.stretch.number != after.number;
         let is_over = is_other || after.phase == Phase::Outside;
@@ -184,7 +179,7 @@ impl<W: Write> Story<W> {
         }
         writeln!(self.to, "-- in the end")?;
         let part = Part::of(&self.ends);
-        self.tell_part(part)?;
+        self.tell_part(&part)?;
         tell_rest(&mut self.to, &self.ends)
     }
 }

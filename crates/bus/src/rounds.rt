@@ -17,7 +17,7 @@ impl<W: Write> Story<W> {
     }
 
     pub fn submit(&mut self, side: Side, packet: &[u8]) -> io::Result<()> {
-        if self.ends.end(side).count.taken < PLACES {
+        if self.ends.pair.of(side).count.taken < PLACES {
             return self.play(Move::Call(side, Call::Submit), packet);
         }
         writeln!(
@@ -32,7 +32,7 @@ impl<W: Write> Story<W> {
 
     // Where frame n of those on their way from that end, from 1 on, is among them; where it is not there, that is told.
     fn place(&mut self, from: Side, n: usize) -> io::Result<Option<usize>> {
-        let count = self.ends.end(from.other()).arriving().len();
+        let count = self.ends.pair.of(from.other()).arriving().len();
         let place = n.checked_sub(1).filter(|&at| at < count);
         if place.is_none() {
             writeln!(

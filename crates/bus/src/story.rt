@@ -1,8 +1,8 @@
 // What each command tells, and what it does to the two ends.
 use crate::book::Book;
-use crate::command;
 use crate::command::Command;
 use crate::reason::Ranges;
+use crate::{book, command};
 use base::answer::Refusal;
 use ends::Ends;
 use ends::moves::{Call, Move};
@@ -33,7 +33,7 @@ impl<W: Write> Story<W> {
         Story {
             to,
             ends: Ends::unset(),
-            book: Book::new(),
+            book: book::empty(),
         }
     }
 

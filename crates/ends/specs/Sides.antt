@@ -1,18 +1,27 @@
--- The two ends, by their side, and what is on its way to one.
+-- The two ends, what there is at each by its side, and what is on its way to one.
 use Rattle.std.specs.Prelude.{List, take}
 use Rattle.ends.specs.declared.Side.{Side}
 use Rattle.ends.specs.declared.Side.TheVariants.{Desk, Chip}
 use Rattle.ends.specs.declared.Ends.{Ends}
 use Rattle.ends.specs.declared.end.End.{End}
 use Rattle.ends.specs.declared.bytes.Bytes.{Bytes}
+use Rattle.ends.specs.declared.pair.Pair.{Pair}
 
 abbrev pub other_side : Side → Side
 other_side Desk = Chip
 other_side Chip = Desk
 
+abbrev pub of_side : {T : Type 0} → Side → Pair T → T
+of_side Desk pair = pair.desk
+of_side Chip pair = pair.chip
+
+-- what is at that side becomes t
+abbrev pub with_side : {T : Type 0} → Side → Pair T → T → Pair T
+with_side Desk pair t = record { desk = t; chip = pair.chip }
+with_side Chip pair t = record { desk = pair.desk; chip = t }
+
 abbrev pub end_at : Side → Ends → End
-end_at Desk ends = ends.desk
-end_at Chip ends = ends.chip
+end_at side ends = of_side side ends.pair
 
 -- the first to arrive is the first
 abbrev pub arriving_at : End → List Bytes

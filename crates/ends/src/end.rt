@@ -27,8 +27,8 @@ pub struct End {
     queue: Queue,
 }
 
-// Room for the longest frame.
-type Frame = [u8; LONGEST];
+// For the longest frame.
+type Room = [u8; LONGEST];
 
 // So many bytes from `at` on; nothing where they are none.
 fn some_of(frame: &[u8], at: usize, count: u16) -> Option<Bytes> {
@@ -110,7 +110,7 @@ impl End {
         }
     }
 
-    fn outcome(&mut self, call: Call, frame: &mut Frame, ms: u32, packet: &[u8]) -> Outcome {
+    fn outcome(&mut self, call: Call, frame: &mut Room, ms: u32, packet: &[u8]) -> Outcome {
         match call {
             Call::Submit => link::submit(self.link, &mut self.slots, frame, ms, packet),
             Call::Carry => link::take(self.link, &self.slots, frame, ms, self.next_frame()),
@@ -121,17 +121,17 @@ impl End {
     }
 
     // A packet is delivered from byte 3 of its frame on.
-    fn event(&self, call: Call, o: Outcome, frame: &Frame) -> Event {
+    fn event(&self, call: Call, o: Outcome, sent: Option<Bytes>, is_crowded: bool) -> Event {
         let refusal = Refusal::try_from(o.answer).ok();
         let took = call == Call::Submit && refusal.is_none();
         Event {
             delivered: some_of(self.next_frame(), 3, o.delivered),
-            sent: some_of(frame, 0, o.sent),
+            sent,
             heard: self.hearing(call),
             refusal,
             freed: freed(self.link.waiting, took, o),
             dropped: o.dropped,
-            is_crowded: false,
+            is_crowded,
             was_lost: self.link.lost,
         }
     }
@@ -150,11 +150,12 @@ impl End {
         }
     }
 
-    // Makes the call; what was carried is on its way no more, and what is sent not yet.
-    pub(crate) fn call(&mut self, call: Call, ms: u32, packet: &[u8]) -> Event {
+    // Makes the call; what was carried is on its way no more, and what is sent is on its way to the peer.
+    pub(crate) fn call(&mut self, peer: &mut End, call: Call, ms: u32, packet: &[u8]) -> Event {
         let mut frame = [0u8; LONGEST];
         let o = self.outcome(call, &mut frame, ms, packet);
-        let event = self.event(call, o, &frame);
+        let sent = some_of(&frame, 0, o.sent);
+        let event = self.event(call, o, sent, !peer.expect(sent));
         self.link = o.state;
         self.dropped = self.dropped.wrapping_add(u64::from(o.dropped));
         self.keep_count(call, &event);
@@ -166,11 +167,11 @@ impl End {
 
     // ---- frames on their way to the end
 
-    // What the other end sent is on its way, if there is room; else the event says that it is lost.
-    pub(crate) fn expect(&mut self, event: &mut Event) {
-        if let Some(frame) = event.sent {
-            event.is_crowded = self.queue.is_full();
-            self.queue.push(frame);
+    // What the peer sent is on its way, if it sent something; whether there is room for it.
+    fn expect(&mut self, sent: Option<Bytes>) -> bool {
+        match sent {
+            Some(frame) => self.queue.push(frame),
+            None => true,
         }
     }
 

@@ -6,6 +6,7 @@ pub mod bytes;
 pub mod end;
 pub mod hearing;
 pub mod moves;
+pub mod pair;
 mod queue;
 pub mod rounds;
 pub mod stretch;
@@ -13,6 +14,7 @@ pub mod stretch;
 use base::answer::Refusal;
 use end::End;
 use moves::{Call, Event, Move};
+use pair::Pair;
 pub use queue::PLACES;
 use state::Settings;
 use stretch::Stretch;
@@ -40,36 +42,29 @@ impl Side {
 // passed, rounds: the milliseconds and timer rounds since both ends started.
 #[derive(Drop)]
 pub struct Ends {
-    pub desk: End,
-    pub chip: End,
+    pub pair: Pair<End>,
     pub stretch: Stretch,
     pub passed: u64,
     pub rounds: u64,
     pub clock: u32,
 }
 
-// A call at one end; what it sends is on its way to the other.
-fn exchange(here: &mut End, there: &mut End, call: Call, ms: u32, packet: &[u8]) -> Event {
-    let mut event = here.call(call, ms, packet);
-    there.expect(&mut event);
-    event
-}
-
 impl Ends {
     ghost use Rattle.std.specs.Prelude.{◌≡◌, ◌↔◌, IsSome};
     ghost use Rattle.base.specs.Answer.{answer_of};
-    ghost use Rattle.ends.specs.Sides.{end_at};
     ghost use Rattle.ends.specs.Moves.{clock_after, IsCall};
     ghost use Rattle.state.specs.Calls.{zeros, started};
 
     // Before any start: nothing is set, and every call answers so.
     pub fn unset() -> Ends
-        ensures desk { result.desk.link ≡ zeros }
-        ensures chip { result.chip.link ≡ zeros }
+        ensures desk { result.pair.desk.link ≡ zeros }
+        ensures chip { result.pair.chip.link ≡ zeros }
     {
         Ends {
-            desk: End::unset(),
-            chip: End::unset(),
+            pair: Pair {
+                desk: End::unset(),
+                chip: End::unset(),
+            },
             stretch: Stretch::unset(),
             passed: 0,
             rounds: 0,
@@ -77,25 +72,16 @@ impl Ends {
         }
     }
 
-    pub fn end(&self, side: Side) -> &End
-        ensures { result.now ≡ end_at side self.now }
-    {
-        match side {
-            Side::Desk => &self.desk,
-            Side::Chip => &self.chip,
-        }
-    }
-
     // Starts both ends with these settings, nothing on its way between them. Where a setting is out of range both refuse: they are zeros,
     // and answer so to every call.
     pub fn start(&mut self, s: Settings, clock: u32) -> Result<(), Refusal>
-        ensures desk { self.new.desk.link ≡ (started s 2048).state }
-        ensures chip { self.new.chip.link ≡ (started s 2048).state }
+        ensures desk { self.new.pair.desk.link ≡ (started s 2048).state }
+        ensures chip { self.new.pair.chip.link ≡ (started s 2048).state }
         ensures answer { answer_of result ≡ (started s 2048).answer }
         ensures clock { self.new.clock ≡ clock }
     {
-        let _ = self.chip.start(s);
-        let started = self.desk.start(s);
+        let _ = self.pair.chip.start(s);
+        let started = self.pair.desk.start(s);
         self.stretch = if started.is_ok() {
             Stretch::first()
         } else {
@@ -107,45 +93,19 @@ impl Ends {
         started
     }
 
-    // Behind a move, by which an end may have become fresh.
-    fn turn(&mut self, is_fresh: bool)
-        ensures { self.new.clock ≡ self.old.clock }
-    {
-        let are_ready = self.desk.is_ready() && self.chip.is_ready();
-        self.stretch.turn(is_fresh, are_ready);
+    // Whether a stretch may begin.
+    fn are_ready(&self) -> bool {
+        self.pair.desk.is_ready() && self.pair.chip.is_ready()
     }
 
     fn call(&mut self, side: Side, call: Call, packet: &[u8]) -> Event
         ensures { self.new.clock ≡ self.old.clock }
     {
-        let event = match side {
-            Side::Desk => exchange(&mut self.desk, &mut self.chip, call, self.clock, packet),
-            Side::Chip => exchange(&mut self.chip, &mut self.desk, call, self.clock, packet),
-        };
-        self.turn(event.is_fresh());
+        let (here, there) = self.pair.both_mut(side);
+        let event = here.call(there, call, self.clock, packet);
+        let are_ready = self.are_ready();
+        self.stretch.advance(event.is_fresh(), are_ready);
         event
-    }
-
-    fn lose(&mut self, side: Side, n: usize)
-        ensures { self.new.clock ≡ self.old.clock }
-    {
-        match side {
-            Side::Desk => self.desk.lose(n),
-            Side::Chip => self.chip.lose(n),
-        }
-        self.turn(false);
-    }
-
-    fn damage(&mut self, side: Side, n: usize, bytes: &[u8])
-        ensures { self.new.clock ≡ self.old.clock }
-    {
-        let is_forged = match side {
-            Side::Desk => self.desk.damage(n, bytes),
-            Side::Chip => self.chip.damage(n, bytes),
-        };
-        if is_forged {
-            self.stretch.forge();
-        }
     }
 
     // Makes the move, and gives what came of it where it is a call. bytes: what a submit is handed, or what a damaged frame becomes; no
@@ -155,10 +115,18 @@ impl Ends {
         ensures clock { self.new.clock ≡ clock_after self.old.clock m }
     {
         match m {
-            Move::Call(side, Call::Carry) if self.end(side).arriving().is_empty() => {}
+            Move::Call(side, Call::Carry) if self.pair.of(side).arriving().is_empty() => {}
             Move::Call(side, call) => return Some(self.call(side, call, bytes)),
-            Move::Lose(side, n) => self.lose(side, n),
-            Move::Damage(side, n) => self.damage(side, n, bytes),
+            Move::Lose(side, n) => {
+                self.pair.of_mut(side).lose(n);
+                let are_ready = self.are_ready();
+                self.stretch.advance(false, are_ready);
+            }
+            Move::Damage(side, n) => {
+                if self.pair.of_mut(side).damage(n, bytes) {
+                    self.stretch.forge();
+                }
+            }
             Move::Pass(ms) => {
                 self.clock = self.clock.wrapping_add(ms);
                 self.passed = self.passed.wrapping_add(u64::from(ms));

@@ -27,16 +27,14 @@ impl Queue {
         &self.places[..self.count]
     }
 
-    pub fn is_full(&self) -> bool {
-        self.count == PLACES
-    }
-
-    // Lost where the queue is full.
-    pub fn push(&mut self, frame: Bytes) {
-        if self.count < PLACES {
+    // Whether there is room for the frame; where the queue is full, it is lost.
+    pub fn push(&mut self, frame: Bytes) -> bool {
+        let has_room = self.count < PLACES;
+        if has_room {
             self.places[self.count] = frame;
             self.count += 1;
         }
+        has_room
     }
 
     // Frame n goes, if it is there, and those behind it move up.

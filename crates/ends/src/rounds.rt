@@ -31,10 +31,10 @@ impl Ends {
     fn next_look(&self) -> Option<Move>
         ensures { IfSome result (MayFollow self.now) }
     {
-        if self.desk.is_due(self.clock) {
+        if self.pair.desk.is_due(self.clock) {
             return Some(Move::Call(Side::Desk, Call::Look));
         }
-        if self.chip.is_due(self.clock) {
+        if self.pair.chip.is_due(self.clock) {
             return Some(Move::Call(Side::Chip, Call::Look));
         }
         None
@@ -42,8 +42,8 @@ impl Ends {
 
     // How far off the first moment is at which a timer of either end is due, if one runs.
     fn first_due(&self) -> Option<u32> {
-        let desk = state::time_left(self.desk.link, self.clock);
-        let chip = state::time_left(self.chip.link, self.clock);
+        let desk = state::time_left(self.pair.desk.link, self.clock);
+        let chip = state::time_left(self.pair.chip.link, self.clock);
         match desk.min(chip) {
             state::NO_TIMER => None,
             soonest => Some(u32::from(soonest)),
@@ -63,7 +63,10 @@ impl Ends {
     fn next_carry(&self) -> Option<Move>
         ensures { IfSome result (MayFollow self.now) }
     {
-        let (desk, chip) = (self.desk.arriving().len(), self.chip.arriving().len());
+        let (desk, chip) = (
+            self.pair.desk.arriving().len(),
+            self.pair.chip.arriving().len(),
+        );
         if chip < desk {
             return Some(Move::Call(Side::Desk, Call::Carry));
         }
@@ -85,15 +88,15 @@ impl Ends {
 
     // Whether a link is lost.
     pub fn is_lost(&self) -> bool
-        ensures { result ≡ (self.now.desk.link.lost || self.now.chip.link.lost) }
+        ensures { result ≡ (self.now.pair.desk.link.lost || self.now.pair.chip.link.lost) }
     {
-        self.desk.link.lost || self.chip.link.lost
+        self.pair.desk.link.lost || self.pair.chip.link.lost
     }
 
     // Whether nothing is on its way, nothing waits, and nothing is owed.
     pub fn is_settled(&self) -> bool
-        ensures { IsTrue result ↔ (IsSettled self.now.desk × IsSettled self.now.chip) }
+        ensures { IsTrue result ↔ (IsSettled self.now.pair.desk × IsSettled self.now.pair.chip) }
     {
-        self.desk.is_settled() && self.chip.is_settled()
+        self.pair.desk.is_settled() && self.pair.chip.is_settled()
     }
 }

@@ -37,7 +37,7 @@ impl Stretch {
     }
 
     // Behind a move, by which an end may have become fresh: a stretch is over, or begins where both ends are ready for it.
-    pub(crate) fn turn(&mut self, is_fresh: bool, are_ready: bool) {
+    pub(crate) fn advance(&mut self, is_fresh: bool, are_ready: bool) {
         if is_fresh {
             self.phase = Phase::Outside;
         }
