@@ -28,7 +28,8 @@ impl<'a> Fields<'a> {
 
     // The next word, as it stands; it is empty where two spaces follow each other, or where one ends the line.
     pub fn word(&mut self) -> Option<&'a [u8]>
-        ensures { IsSome result ↔ IsSome self.old.rest }
+        ensures given { IsSome result ↔ IsSome self.old.rest }
+        ensures within { IfSome result (λ word. IfSome self.old.rest (λ rest. length word.now ≤ length rest.now)) }
     {
         let rest = self.rest?;
         let Some(end) = memchr(b' ', rest) else {

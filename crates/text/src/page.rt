@@ -1,5 +1,5 @@
 // Text for output.
-ghost use Rattle.std.specs.Prelude.{◌≡◌, ◌+◌, ◌≤◌, OnOk, length};
+ghost use Rattle.std.specs.Prelude.{◌≡◌, ◌+◌, ◌≤◌, OnOk, OnErr, length};
 ghost use Rattle.arrayvec.specs.ArrayVec.{array_vec_len};
 ghost use Rattle.std.specs.Io.KnownBytes.{Keeps, Appends};
 
@@ -34,6 +34,7 @@ impl<W: Write> Page<W> {
 
     fn write_out(&mut self) -> io::Result<()>
         ensures empty { OnOk result (array_vec_len self.new.line ≡ 0) }
+        ensures same { OnErr result (array_vec_len self.new.line ≡ array_vec_len self.old.line) }
         ensures bytes { OnOk result (Keeps (laid W.contents self.old) (laid W.contents self.new)) }
     {
         self.to.write_all(self.line.as_slice())?;
@@ -44,6 +45,7 @@ impl<W: Write> Page<W> {
     fn make_room(&mut self, count: usize) -> io::Result<()>
         requires { count ≤ 8192 }
         ensures room { OnOk result (array_vec_len self.new.line + count ≤ 8192) }
+        ensures less { array_vec_len self.new.line ≤ array_vec_len self.old.line }
         ensures bytes { OnOk result (Keeps (laid W.contents self.old) (laid W.contents self.new)) }
     {
         if self.line.remaining_capacity() < count {
@@ -54,7 +56,8 @@ impl<W: Write> Page<W> {
 
     fn lay(&mut self, text: &[u8])
         requires { array_vec_len self.old.line + length text.now ≤ 8192 }
-        ensures { Appends (laid W.contents self.old) (laid W.contents self.new) text.now }
+        ensures bytes { Appends (laid W.contents self.old) (laid W.contents self.new) text.now }
+        ensures longer { array_vec_len self.new.line ≡ array_vec_len self.old.line + length text.now }
     {
         let _ = self.line.try_extend_from_slice(text);
     }
@@ -76,6 +79,7 @@ impl<W: Write> Write for Page<W> {
 
     fn write_all(&mut self, text: &[u8]) -> io::Result<()>
         ensures bytes { OnOk result (Appends (laid W.contents self.old) (laid W.contents self.new) text.now) }
+        ensures err { OnErr result (array_vec_len self.new.line ≤ array_vec_len self.old.line + length text.now) }
     {
         if LINE < text.len() {
             self.write_out()?;
