@@ -9,6 +9,7 @@ use std::io;
 use std::io::Write;
 
 // More moves than a round has.
+// Stays: a loop without a count needs a measure, and specs/ of ends has none of a round's moves.
 const MOVES: u64 = u64::MAX;
 
 impl<W: Write> Story<W> {
@@ -48,6 +49,7 @@ impl<W: Write> Story<W> {
     // Where there are not so many, none is carried.
     pub fn carry(&mut self, from: Side, times: usize) -> io::Result<()> {
         if self.place(from, times)?.is_some() {
+            // Stays: so many times the same, over no list.
             for _ in 0..times {
                 self.call(from.other(), Call::Carry)?;
             }
@@ -84,6 +86,7 @@ impl<W: Write> Story<W> {
     }
 
     pub fn rounds(&mut self, times: u8) -> io::Result<()> {
+        // Stays: so many times the same, over no list.
         for _ in 0..times {
             self.round()?;
         }
@@ -112,6 +115,7 @@ impl<W: Write> Story<W> {
     // Rounds until all is through, and how many they were; no more than bring it through.
     pub fn settle(&mut self) -> io::Result<()> {
         let (rounds, passed) = (self.ends.rounds, self.ends.passed);
+        // Stays: so many times the same, over no list.
         for _ in 0..PROMISED {
             if self.ends.is_settled() || self.ends.is_lost() {
                 break;

@@ -1,5 +1,5 @@
 -- The two ends, what there is at each by its side, and what is on its way to one.
-use Rattle.std.specs.Prelude.{List, take}
+use Rattle.std.specs.Prelude.{List}
 use Rattle.ends.specs.declared.Side.{Side}
 use Rattle.ends.specs.declared.Side.TheVariants.{Desk, Chip}
 use Rattle.ends.specs.declared.Ends.{Ends}
@@ -25,4 +25,4 @@ end_at side ends = of_side side ends.pair
 
 -- the first to arrive is the first
 abbrev pub arriving_at : End → List Bytes
-arriving_at end = take end.queue.count end.queue.places
+arriving_at end = end.queue.items

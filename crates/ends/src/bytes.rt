@@ -4,6 +4,7 @@ ghost use Rattle.std.specs.Prelude.{◌≡◌, ◌≤◌, ◌↔◌, [], length,
 // The longest frame.
 pub const LONGEST: usize = 1024;
 
+// Stays: what is sent lies in the queue and in the event too; an `ArrayVec` is not Copy, and its clone can fail.
 #[derive(Clone, Copy)]
 pub struct Bytes {
     bytes: [u8; LONGEST],
@@ -41,5 +42,11 @@ impl Bytes {
         ensures { result.now ≡ bytes_of self.now }
     {
         &self.bytes[..self.count]
+    }
+}
+
+impl Default for Bytes {
+    fn default() -> Bytes {
+        Bytes::empty()
     }
 }

@@ -2,10 +2,13 @@
 use crate::bytes::{Bytes, LONGEST};
 use crate::hearing::Hearing;
 use crate::moves::{Call, Event};
-use crate::queue::Queue;
+use arrayvec::ArrayVec;
 use base::answer::Refusal;
 use base::buffer::part;
 use state::{Link, Outcome, Settings};
+
+// The most frames that are on their way to an end.
+pub const PLACES: usize = 64;
 
 // Two slots of the longest packet, and more.
 const SLOTS: usize = 2048;
@@ -24,7 +27,7 @@ pub struct End {
     pub count: Count,
     pub dropped: u64,
     slots: [u8; SLOTS],
-    queue: Queue,
+    queue: ArrayVec<Bytes, PLACES>,
 }
 
 // For the longest frame.
@@ -58,7 +61,7 @@ impl End {
             count: Count::default(),
             dropped: 0,
             slots: [0; SLOTS],
-            queue: Queue::new(),
+            queue: ArrayVec::new(),
         }
     }
 
@@ -66,7 +69,7 @@ impl End {
     pub fn arriving(&self) -> &[Bytes]
         ensures { result.now ≡ arriving_at self.now }
     {
-        self.queue.frames()
+        self.queue.as_slice()
     }
 
     // Starts anew, with nothing on its way; gives why the start refuses, where it does.
@@ -160,7 +163,7 @@ impl End {
         self.dropped = self.dropped.wrapping_add(u64::from(o.dropped));
         self.keep_count(call, &event);
         if call == Call::Carry {
-            self.queue.remove(0);
+            self.queue.pop_at(0);
         }
         event
     }
@@ -170,20 +173,20 @@ impl End {
     // What the peer sent is on its way, if it sent something; whether there is room for it.
     fn expect(&mut self, sent: Option<Bytes>) -> bool {
         match sent {
-            Some(frame) => self.queue.push(frame),
+            Some(frame) => self.queue.try_push(frame).is_ok(),
             None => true,
         }
     }
 
     pub(crate) fn lose(&mut self, n: usize) {
-        self.queue.remove(n);
+        self.queue.pop_at(n);
     }
 
     // Whether frame n is there and has become one that step 1 does not refuse. More bytes than a frame can have leave it as it is.
     pub(crate) fn damage(&mut self, n: usize, bytes: &[u8]) -> bool {
         let is_there = n < self.arriving().len();
-        if let Some(frame) = Bytes::new(bytes) {
-            self.queue.replace(n, frame);
+        if let (Some(laid), Some(frame)) = (Bytes::new(bytes), self.queue.get_mut(n)) {
+            *frame = laid;
         }
         is_there && Hearing::of(self.link.settings.format, bytes).passes_step_1()
     }

@@ -7,15 +7,14 @@ pub mod end;
 pub mod hearing;
 pub mod moves;
 pub mod pair;
-mod queue;
 pub mod rounds;
 pub mod stretch;
 
 use base::answer::Refusal;
 use end::End;
+pub use end::PLACES;
 use moves::{Call, Event, Move};
 use pair::Pair;
-pub use queue::PLACES;
 use state::Settings;
 use stretch::Stretch;
 
