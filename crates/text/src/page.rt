@@ -56,8 +56,8 @@ impl<W: Write> Page<W> {
 
     fn lay(&mut self, text: &[u8])
         requires { array_vec_len self.old.line + length text.now ≤ 8192 }
-        ensures bytes { Appends (laid W.contents self.old) (laid W.contents self.new) text.now }
         ensures longer { array_vec_len self.new.line ≡ array_vec_len self.old.line + length text.now }
+        ensures bytes { Appends (laid W.contents self.old) (laid W.contents self.new) text.now }
     {
         let _ = self.line.try_extend_from_slice(text);
     }
