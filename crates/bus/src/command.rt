@@ -94,5 +94,5 @@ fn of_word<'a>(word: &[u8], fields: &mut Fields<'a>, room: &'a mut [u8]) -> Opti
 
 // The line's command, its bytes laid in `room`; none where it is no command.
 pub fn read<'a>(line: &'a [u8], room: &'a mut [u8]) -> Option<Command<'a>> {
-    fields::read(line, room, of_word)
+    fields::command(line, room, of_word)
 }

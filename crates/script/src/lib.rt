@@ -10,7 +10,7 @@ use chaining::Joint;
 use linking::End;
 use std::io;
 use std::io::{Read, Write};
-use text::fields::{Fields, read};
+use text::fields::{Fields, command};
 use text::line;
 use text::line::Line;
 use text::page::Page;
@@ -58,16 +58,16 @@ impl Session {
     // A line of which one file makes no command is offered to the next.
     fn obey_text(&mut self, to: &mut impl Write, number: u64, line: &[u8]) -> io::Result<()> {
         let mut room = [0u8; MOST_BYTES];
-        if let Some(c) = read(line, &mut room, linking::read) {
+        if let Some(c) = command(line, &mut room, linking::read) {
             self.echo(to, line, c.behind())?;
             return self.end.obey(to, c, self.is_worked);
         }
-        if let Some(c) = read(line, &mut room, chaining::read) {
+        if let Some(c) = command(line, &mut room, chaining::read) {
             self.echo(to, line, c.behind())?;
             return self.joint.obey(to, c, self.is_worked);
         }
         if self.is_worked {
-            if let Some(c) = read(line, &mut room, frames::read) {
+            if let Some(c) = command(line, &mut room, frames::read) {
                 self.echo(to, line, ARROW)?;
                 return frames::obey(to, c);
             }

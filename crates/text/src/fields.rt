@@ -98,7 +98,7 @@ impl<'a> Fields<'a> {
 }
 
 // What a line asks for, as `read_command` reads its first word and the fields behind it, with room for their bytes; none where one is left.
-pub fn read<'a, C, R>(line: &'a [u8], room: &'a mut [u8], read_command: R) -> Option<C>
+pub fn command<'a, C, R>(line: &'a [u8], room: &'a mut [u8], read_command: R) -> Option<C>
 where
     C: Drop,
     R: Fn(&'a [u8], &mut Fields<'a>, &'a mut [u8]) -> Option<C>,

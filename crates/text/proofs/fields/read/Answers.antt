@@ -1,6 +1,0 @@
--- `text::fields::read` leaves no field.
-use Rattle.std.proofs.Common.{arith}
-use Rattle.text.proofs.fields.read.Goals as goal
-
-pub returns : goal.returns
-returns g c = search arith
