@@ -3,6 +3,7 @@ ghost use Rattle.std.specs.Prelude.{◌≡◌, ◌+◌, ◌≤◌, length};
 ghost use Rattle.base.specs.Buffer.{put};
 
 // Lends the part of buffer that begins at `at` to the copier.
+#[tactic(auto, unfolding(crate::specs::Buffer::put))]
 pub fn copy_at(buffer: &mut [u8], at: usize, source: &[u8])
     requires { at + length source.now ≤ length buffer.old }
     ensures { buffer.new ≡ put buffer.old at source.now }

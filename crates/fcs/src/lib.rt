@@ -14,11 +14,11 @@ pub fn bit_rule(seed: u16, byte: u8) -> u16
     let mut bits = byte as u16;
     for _ in 0..8u8 {
         if (crc & 1) == (bits & 1) {
-            crc = crc >> 1;
+            crc >>= 1;
         } else {
             crc = (crc >> 1) ^ 0x8408;
         }
-        bits = bits >> 1;
+        bits >>= 1;
     }
     crc
 }
