@@ -226,7 +226,7 @@ number_of BlockNumber = block_number
 number_of BlockChain = block_chain
 number_of FalseLength = false_length
 
--- R8, the other way: of no number that a refusal has, none is given
+-- R8, the other way: the refusal that has this number; there is none only where it is 0, or beyond the last
 abbrev pub Numbered : {E : Type 0} → ℕ → Result Refusal E → Type 0
 Numbered answer r = MatchResult r (λ refusal. number_of refusal ≡ answer) (λ e. (answer ≡ done) ⊎ (false_length < answer))
 

@@ -86,7 +86,7 @@ impl Session {
 
 // Reads a script and writes what its lines give; worked (R10.13): each line again, with what it
 // gives behind an arrow.
-// Stays: a bool, as callers give it; an enum made of it here, tried, had more lines, and its tests said no more than this name.
+// Stays: a bool, as callers give it; an enum made of it here would be a conversion more, and its tests would say no more than this name.
 pub fn run(source: &mut impl Read, to: &mut impl Write, is_worked: bool) -> io::Result<()> {
     let mut page = Page::new(to);
     let mut session = Session::new(is_worked);
