@@ -67,7 +67,7 @@ impl<W: Write> Story<W> {
 
     fn end(&mut self) -> io::Result<()> {
         self.tell_ending()?;
-        self.ends = Ends::unset();
+        self.ends.unstart();
         Ok(())
     }
 

@@ -6,6 +6,7 @@ use Rattle.ends.specs.declared.Ends.{Ends}
 use Rattle.ends.specs.declared.end.End.{End}
 use Rattle.ends.specs.declared.bytes.Bytes.{Bytes}
 use Rattle.ends.specs.declared.pair.Pair.{Pair}
+use Rattle.ends.specs.Queue.{frames_of}
 
 abbrev pub other_side : Side → Side
 other_side Desk = Chip
@@ -25,4 +26,4 @@ end_at side ends = of_side side ends.pair
 
 -- the first to arrive is the first
 abbrev pub arriving_at : End → List Bytes
-arriving_at end = end.queue.items
+arriving_at end = frames_of end.queue

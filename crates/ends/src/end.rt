@@ -2,7 +2,7 @@
 use crate::bytes::{Bytes, LONGEST};
 use crate::hearing::Hearing;
 use crate::moves::{Call, Event};
-use arrayvec::ArrayVec;
+use crate::queue::Queue;
 use base::answer::Refusal;
 use base::buffer::part;
 use state::{Link, Outcome, Settings};
@@ -21,13 +21,13 @@ pub struct Count {
 }
 
 // dropped: how many of all packets that it ever took a reset has dropped.
-#[derive(Drop)]
+#[derive(Clone, Copy)]
 pub struct End {
     pub link: Link,
     pub count: Count,
     pub dropped: u64,
     slots: [u8; SLOTS],
-    queue: ArrayVec<Bytes, PLACES>,
+    queue: Queue,
 }
 
 // For the longest frame.
@@ -48,7 +48,7 @@ fn freed(waited: u8, took: bool, o: Outcome) -> u8 {
 }
 
 impl End {
-    ghost use Rattle.std.specs.Prelude.{◌≡◌};
+    ghost use Rattle.std.specs.Prelude.{◌≡◌, []};
     ghost use Rattle.base.specs.Answer.{answer_of};
     ghost use Rattle.ends.specs.Sides.{arriving_at};
     ghost use Rattle.state.specs.Calls.{zeros, started};
@@ -61,8 +61,19 @@ impl End {
             count: Count::default(),
             dropped: 0,
             slots: [0; SLOTS],
-            queue: ArrayVec::new(),
+            queue: Queue::new(),
         }
+    }
+
+    // As before any start; what is in the slots stays, and no call reads it.
+    pub(crate) fn unstart(&mut self)
+        ensures link { self.new.link ≡ zeros }
+        ensures arrived { arriving_at self.new ≡ [] }
+    {
+        self.link = state::zero_state();
+        self.count = Count::default();
+        self.dropped = 0;
+        self.queue.clear();
     }
 
     // The frames on their way to the end, the first to arrive at the front.
@@ -163,7 +174,7 @@ impl End {
         self.dropped = self.dropped.wrapping_add(u64::from(o.dropped));
         self.keep_count(call, &event);
         if call == Call::Carry {
-            self.queue.pop_at(0);
+            self.queue.pop();
         }
         event
     }
@@ -173,20 +184,20 @@ impl End {
     // What the peer sent is on its way, if it sent something; whether there is room for it.
     fn expect(&mut self, sent: Option<Bytes>) -> bool {
         match sent {
-            Some(frame) => self.queue.try_push(frame).is_ok(),
+            Some(frame) => self.queue.push(frame),
             None => true,
         }
     }
 
     pub(crate) fn lose(&mut self, n: usize) {
-        self.queue.pop_at(n);
+        self.queue.remove(n);
     }
 
     // Whether frame n is there and has become one that step 1 does not refuse. More bytes than a frame can have leave it as it is.
     pub(crate) fn damage(&mut self, n: usize, bytes: &[u8]) -> bool {
         let is_there = n < self.arriving().len();
-        if let (Some(laid), Some(frame)) = (Bytes::new(bytes), self.queue.get_mut(n)) {
-            *frame = laid;
+        if let Some(laid) = Bytes::new(bytes) {
+            self.queue.replace(n, laid);
         }
         is_there && Hearing::of(self.link.settings.format, bytes).passes_step_1()
     }

@@ -7,12 +7,12 @@ pub mod end;
 pub mod hearing;
 pub mod moves;
 pub mod pair;
+mod queue;
 pub mod rounds;
 pub mod stretch;
 
 use base::answer::Refusal;
-use end::End;
-pub use end::PLACES;
+pub use end::{End, PLACES};
 use moves::{Call, Event, Move};
 use pair::Pair;
 use state::Settings;
@@ -39,7 +39,7 @@ impl Side {
 }
 
 // passed, rounds: the milliseconds and timer rounds since both ends started.
-#[derive(Drop)]
+#[derive(Clone, Copy)]
 pub struct Ends {
     pub pair: Pair<End>,
     pub stretch: Stretch,
@@ -69,6 +69,20 @@ impl Ends {
             rounds: 0,
             clock: 0,
         }
+    }
+
+    // As before any start.
+    pub fn unstart(&mut self)
+        ensures desk { self.new.pair.desk.link ≡ zeros }
+        ensures chip { self.new.pair.chip.link ≡ zeros }
+        ensures clock { self.new.clock ≡ 0 }
+    {
+        self.pair.desk.unstart();
+        self.pair.chip.unstart();
+        self.stretch = Stretch::unset();
+        self.passed = 0;
+        self.rounds = 0;
+        self.clock = 0;
     }
 
     // Starts both ends with these settings, nothing on its way between them. Where a setting is out of range both refuse: they are zeros,

@@ -1,7 +1,7 @@
 // What there is one of at each end.
 use crate::Side;
 
-#[derive(Drop)]
+#[derive(Clone, Copy)]
 pub struct Pair<T> {
     pub desk: T,
     pub chip: T,

@@ -1,7 +1,7 @@
 // The commands on one joining of messages: their words, their fields, what they do and what they print.
 // A later input goes last among its command's fields, and is 0 where it is absent. A later output goes last in its command's print
 // function.
-use crate::lent::{UNSENT, UNWRITTEN, lent};
+use crate::lent::{UNSENT, part_of, renew};
 use crate::{ARROW, LINE_FEED, flag};
 use arrayvec::ArrayVec;
 use base::buffer::part;
@@ -144,12 +144,13 @@ impl Joint {
                 size,
                 message,
             } => {
-                let mut packet = lent::<PACKET>(UNSENT, size);
-                let p = chain::cut(m, message, i, packet.as_mut_slice());
-                write_piece(to, p, packet.as_slice(), is_worked)
+                let mut room = [UNSENT; PACKET];
+                let packet = part_of(&mut room, size);
+                let p = chain::cut(m, message, i, packet);
+                write_piece(to, p, packet, is_worked)
             }
             Command::Room(size) => {
-                self.room = lent(UNWRITTEN, size);
+                renew(&mut self.room, size);
                 Ok(())
             }
             Command::Joining(joining) => {

@@ -1,6 +1,6 @@
 // The commands on one end of the link: their words, their fields, what they do and what they print.
 // A later input goes last among its command's fields, and is 0 where it is absent. A later output goes last in print, behind the frame.
-use crate::lent::{UNSENT, UNWRITTEN, lent};
+use crate::lent::{UNSENT, part_of, renew};
 use crate::{ARROW, LINE_FEED, flag};
 use arrayvec::ArrayVec;
 use base::buffer::part;
@@ -202,20 +202,21 @@ impl End {
     }
 
     fn call(&mut self, to: &mut impl Write, c: Call<'_>, is_worked: bool) -> io::Result<()> {
-        let mut frame = lent::<BUFFER>(UNSENT, self.frame);
-        let o = self.make(c, frame.as_mut_slice());
+        let mut room = [UNSENT; BUFFER];
+        let frame = part_of(&mut room, self.frame);
+        let o = self.make(c, frame);
         self.link = o.state;
         if is_worked {
-            return write_worked(to, o, received(c), frame.as_slice());
+            return write_worked(to, o, received(c), frame);
         }
-        write_all(to, o, self.slots.as_slice(), frame.as_slice())
+        write_all(to, o, self.slots.as_slice(), frame)
     }
 
     pub fn obey(&mut self, to: &mut impl Write, c: Command<'_>, is_worked: bool) -> io::Result<()> {
         match c {
             Command::Call(call) => self.call(to, call, is_worked),
             Command::Lend { slots, frame } => {
-                self.slots = lent(UNWRITTEN, slots);
+                renew(&mut self.slots, slots);
                 self.frame = frame;
                 Ok(())
             }

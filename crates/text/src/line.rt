@@ -39,7 +39,7 @@ fn line_of(text: &[u8], is_long: bool) -> Line<'_>
 // from, count: which bytes of the buffer have been read and are in no line yet. is_long: the line that they begin is too long, and what
 // was read of it is dropped. is_over: the input has ended.
 // Stays: the bytes lie between two marks; a vector of them has one, and would move its bytes for each line.
-#[derive(Drop)]
+#[derive(Clone, Copy)]
 pub struct Lines {
     buffer: [u8; INPUT],
     from: usize,

@@ -1,5 +1,5 @@
 // Text for output.
-ghost use Rattle.std.specs.Prelude.{◌≡◌, ◌+◌, ◌≤◌, OnOk, OnErr, length};
+ghost use Rattle.std.specs.Prelude.{◌≡◌, ◌+◌, ◌++◌, ◌<◌, ◌≤◌, OnOk, OnErr, length};
 ghost use Rattle.arrayvec.specs.ArrayVec.{array_vec_len};
 ghost use Rattle.std.specs.Io.KnownBytes.{Keeps, Appends};
 
@@ -12,7 +12,8 @@ use std::{fmt, io};
 const LINE: usize = 8192;
 
 // A writer that is handed what waits as soon as a text ends in a line feed, so that no text waits beyond its line; and before the array
-// is too full for a text. Nothing is left out, however long a line is, and behind an error the writer has what it took.
+// is too full for a text. Nothing is left out, however long a line is; behind an error the writer has what it took, and what waits is as it
+// was.
 #[derive(Drop)]
 pub struct Page<W> {
     to: W,
@@ -34,7 +35,7 @@ impl<W: Write> Page<W> {
 
     fn write_out(&mut self) -> io::Result<()>
         ensures empty { OnOk result (array_vec_len self.new.line ≡ 0) }
-        ensures same { OnErr result (array_vec_len self.new.line ≡ array_vec_len self.old.line) }
+        ensures same { OnErr result (self.new.line.items ≡ self.old.line.items) }
         ensures bytes { OnOk result (Keeps (laid W.contents self.old) (laid W.contents self.new)) }
     {
         self.to.write_all(self.line.as_slice())?;
@@ -42,24 +43,43 @@ impl<W: Write> Page<W> {
         Ok(())
     }
 
-    fn make_room(&mut self, count: usize) -> io::Result<()>
-        requires { count ≤ 8192 }
-        ensures room { OnOk result (array_vec_len self.new.line + count ≤ 8192) }
-        ensures less { array_vec_len self.new.line ≤ array_vec_len self.old.line }
-        ensures bytes { OnOk result (Keeps (laid W.contents self.old) (laid W.contents self.new)) }
-    {
-        if self.line.remaining_capacity() < count {
-            return self.write_out();
-        }
-        Ok(())
-    }
-
     fn lay(&mut self, text: &[u8])
         requires { array_vec_len self.old.line + length text.now ≤ 8192 }
-        ensures longer { array_vec_len self.new.line ≡ array_vec_len self.old.line + length text.now }
+        ensures longer { self.new.line.items ≡ self.old.line.items ++ text.now }
         ensures bytes { Appends (laid W.contents self.old) (laid W.contents self.new) text.now }
     {
         let _ = self.line.try_extend_from_slice(text);
+    }
+
+    // The last of a line, of which the beginning waits.
+    fn end_line(&mut self, text: &[u8]) -> io::Result<()>
+        requires { array_vec_len self.old.line + length text.now ≤ 8192 }
+        ensures bytes { OnOk result (Appends (laid W.contents self.old) (laid W.contents self.new) text.now) }
+        ensures err { OnErr result (self.new.line.items ≡ self.old.line.items) }
+    {
+        let kept = self.line.len();
+        self.lay(text);
+        let written = self.write_out();
+        if written.is_err() {
+            self.line.truncate(kept);
+        }
+        written
+    }
+
+    // A text for which there is no room behind what waits.
+    fn write_behind(&mut self, text: &[u8]) -> io::Result<()>
+        ensures bytes { OnOk result (Appends (laid W.contents self.old) (laid W.contents self.new) text.now) }
+        ensures err { OnErr result (self.new.line.items ≡ self.old.line.items) }
+    {
+        self.to.write_all(self.line.as_slice())?;
+        if LINE < text.len() || text.ends_with(b"\n") {
+            self.to.write_all(text)?;
+            self.line.clear();
+            return Ok(());
+        }
+        self.line.clear();
+        self.lay(text);
+        Ok(())
     }
 }
 
@@ -79,19 +99,43 @@ impl<W: Write> Write for Page<W> {
 
     fn write_all(&mut self, text: &[u8]) -> io::Result<()>
         ensures bytes { OnOk result (Appends (laid W.contents self.old) (laid W.contents self.new) text.now) }
-        ensures err { OnErr result (array_vec_len self.new.line ≤ array_vec_len self.old.line + length text.now) }
+        ensures err { OnErr result (self.new.line.items ≡ self.old.line.items) }
     {
-        if LINE < text.len() {
-            self.write_out()?;
-            return self.to.write_all(text);
+        if self.line.remaining_capacity() < text.len() {
+            return self.write_behind(text);
         }
-        self.make_room(text.len())?;
-        self.lay(text);
         if text.ends_with(b"\n") {
-            return self.write_out();
+            return self.end_line(text);
         }
+        self.lay(text);
         Ok(())
     }
+}
+
+// So many bytes are printed at once.
+const PIECE: usize = 64;
+
+// Stays: by hand; eight bytes by `{:016X}`, and the rest one by one, are slower.
+fn digit(nibble: u8) -> u8
+    requires { nibble < 16 }
+{
+    if nibble < 10 {
+        b'0' + nibble
+    } else {
+        b'A' + (nibble - 10)
+    }
+}
+
+// At most a piece.
+fn write_digits<W: fmt::Write>(f: &mut Formatter<W>, bytes: &[u8]) -> fmt::Result
+    requires { length bytes.now ≤ 64 }
+{
+    let mut digits = [[0u8; 2]; PIECE];
+    for (pair, byte) in digits.iter_mut().zip(bytes) {
+        *pair = [digit(byte >> 4), digit(byte & 15)];
+    }
+    let text = digits[..bytes.len()].as_flattened();
+    f.write_str(str::from_utf8(text).map_err(|_| fmt::Error)?)
 }
 
 // Bytes in hexadecimal digits, upper case; `-` for none.
@@ -103,15 +147,26 @@ impl fmt::Display for Hex<'_> {
         if self.0.is_empty() {
             return f.write_str("-");
         }
-        let (words, rest) = self.0.as_chunks::<8>();
-        for word in words {
-            write!(f, "{:016X}", u64::from_be_bytes(*word))?;
+        let (pieces, rest) = self.0.as_chunks::<PIECE>();
+        for piece in pieces {
+            write_digits(f, piece)?;
         }
-        for byte in rest {
-            write!(f, "{byte:02X}")?;
-        }
-        Ok(())
+        write_digits(f, rest)
     }
+}
+
+// At most a piece.
+fn write_characters<W: fmt::Write>(f: &mut Formatter<W>, bytes: &[u8]) -> fmt::Result
+    requires { length bytes.now ≤ 64 }
+{
+    let mut characters = [b'.'; PIECE];
+    for (character, byte) in characters.iter_mut().zip(bytes) {
+        if matches!(*byte, b' '..=b'~') {
+            *character = *byte;
+        }
+    }
+    let text = &characters[..bytes.len()];
+    f.write_str(str::from_utf8(text).map_err(|_| fmt::Error)?)
 }
 
 // Bytes as characters, and a dot for each that is no printable one.
@@ -120,11 +175,11 @@ pub struct Printable<'a>(pub &'a [u8]);
 
 impl fmt::Display for Printable<'_> {
     fn fmt<W: fmt::Write>(&self, f: &mut Formatter<W>) -> fmt::Result {
-        for byte in self.0 {
-            let is_printable = matches!(*byte, b' '..=b'~');
-            f.write_char(if is_printable { char::from(*byte) } else { '.' })?;
+        let (pieces, rest) = self.0.as_chunks::<PIECE>();
+        for piece in pieces {
+            write_characters(f, piece)?;
         }
-        Ok(())
+        write_characters(f, rest)
     }
 }
 
