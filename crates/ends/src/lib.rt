@@ -49,8 +49,9 @@ pub struct Ends {
 }
 
 impl Ends {
-    ghost use Rattle.std.specs.Prelude.{◌≡◌, ◌↔◌, IsSome};
+    ghost use Rattle.std.specs.Prelude.{◌≡◌, ◌↔◌, [], IsSome};
     ghost use Rattle.base.specs.Answer.{answer_of};
+    ghost use Rattle.ends.specs.Sides.{arriving_at};
     ghost use Rattle.ends.specs.Moves.{clock_after, IsCall};
     ghost use Rattle.state.specs.Calls.{zeros, started};
 
@@ -75,6 +76,9 @@ impl Ends {
     pub fn unstart(&mut self)
         ensures desk { self.new.pair.desk.link ≡ zeros }
         ensures chip { self.new.pair.chip.link ≡ zeros }
+        ensures to_desk { arriving_at self.new.pair.desk ≡ [] }
+        ensures to_chip { arriving_at self.new.pair.chip ≡ [] }
+        ensures counts { (self.new.passed ≡ 0) × (self.new.rounds ≡ 0) }
         ensures clock { self.new.clock ≡ 0 }
     {
         self.pair.desk.unstart();

@@ -4,9 +4,9 @@ ghost use Rattle.std.specs.Prelude.{◌+◌, ◌≤◌};
 use crate::bytes::Bytes;
 use crate::end::PLACES;
 
-// For as many, and half as many: as frames arrive, those that are left come nearer to the room's end, and are moved back to its beginning
+// For as many, and eight more: as frames arrive, those that are left come nearer to the room's end, and are moved back to its beginning
 // when they reach it.
-const ROOM: usize = 96;
+const ROOM: usize = 72;
 
 // from, to: where in the room they are.
 // Stays: an array with marks; an `ArrayVec` moves all that are behind a frame that arrives, and is not Copy.
@@ -15,7 +15,7 @@ pub(crate) struct Queue {
     room: [Bytes; ROOM],
     from: usize,
     to: usize,
-    ghost within: { (from ≤ to) × (to ≤ 96) },
+    ghost within: { (from ≤ to) × (to ≤ 72) },
     ghost fits: { to ≤ from + 64 },
 }
 
@@ -46,10 +46,10 @@ impl Queue {
         self.to = 0;
     }
 
-    // At least a third of the room is free behind them then.
+    // At least eight places are free behind them then.
     fn move_back(&mut self)
         ensures same { frames_of self.new ≡ frames_of self.old }
-        ensures free { self.new.to + 32 ≤ 96 }
+        ensures free { self.new.to + 8 ≤ 72 }
     {
         self.room.copy_within(self.from..self.to, 0);
         self.to -= self.from;
@@ -73,13 +73,16 @@ impl Queue {
         true
     }
 
-    // The first has arrived, if there is one.
+    // The first has arrived, if there is one. Where none is left the next has the first place, so that the same memory stays in use.
     #[tactic(auto, using(crate::proofs::Windows::first_gone))]
     pub(crate) fn pop(&mut self)
         ensures { frames_of self.new ≡ remove (frames_of self.old) 0 }
     {
         if self.from < self.to {
             self.from += 1;
+        }
+        if self.from == self.to {
+            self.clear();
         }
     }
 
