@@ -74,7 +74,6 @@ impl Queue {
     }
 
     // The first has arrived, if there is one. Where none is left the next has the first place, so that the same memory stays in use.
-    #[tactic(auto, using(crate::proofs::Windows::first_gone))]
     pub(crate) fn pop(&mut self)
         ensures { frames_of self.new ≡ remove (frames_of self.old) 0 }
     {
@@ -87,7 +86,6 @@ impl Queue {
     }
 
     // Frame n goes, from 0 on, if it is there.
-    #[tactic(auto, using(crate::proofs::Windows::moved_over))]
     pub(crate) fn remove(&mut self, n: usize)
         ensures { frames_of self.new ≡ remove (frames_of self.old) n }
     {
