@@ -1,5 +1,6 @@
 -- The two ends, what there is at each by its side, and what is on its way to one.
-use Rattle.std.specs.Prelude.{List}
+use Rattle.std.specs.Prelude.{List, [], ◌≡◌}
+use Rattle.state.specs.Calls.{zeros}
 use Rattle.ends.specs.declared.Side.{Side}
 use Rattle.ends.specs.declared.Side.TheVariants.{Desk, Chip}
 use Rattle.ends.specs.declared.Ends.{Ends}
@@ -27,3 +28,11 @@ end_at side ends = of_side side ends.pair
 -- the first to arrive is the first
 abbrev pub arriving_at : End → List Bytes
 arriving_at end = frames_of end.queue
+
+-- as before any start: every call answers so; nothing is on its way to the end, and nothing is counted
+pub record IsUnset (end : End) : Type 0 where
+  pub link : end.link ≡ zeros
+  pub arriving : arriving_at end ≡ []
+  pub taken : end.count.taken ≡ 0
+  pub delivered : end.count.delivered ≡ 0
+  pub dropped : end.dropped ≡ 0

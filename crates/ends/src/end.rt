@@ -48,13 +48,13 @@ fn freed(waited: u8, took: bool, o: Outcome) -> u8 {
 }
 
 impl End {
-    ghost use Rattle.std.specs.Prelude.{◌≡◌, []};
+    ghost use Rattle.std.specs.Prelude.{◌≡◌};
     ghost use Rattle.base.specs.Answer.{answer_of};
-    ghost use Rattle.ends.specs.Sides.{arriving_at};
+    ghost use Rattle.ends.specs.Sides.{arriving_at, IsUnset};
     ghost use Rattle.state.specs.Calls.{zeros, started};
 
     pub(crate) fn unset() -> End
-        ensures { result.link ≡ zeros }
+        ensures { IsUnset result }
     {
         End {
             link: state::zero_state(),
@@ -67,8 +67,7 @@ impl End {
 
     // As before any start; what is in the slots stays, and no call reads it.
     pub(crate) fn unstart(&mut self)
-        ensures link { self.new.link ≡ zeros }
-        ensures arrived { arriving_at self.new ≡ [] }
+        ensures { IsUnset self.new }
     {
         self.link = state::zero_state();
         self.count = Count::default();

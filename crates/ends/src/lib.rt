@@ -49,16 +49,20 @@ pub struct Ends {
 }
 
 impl Ends {
-    ghost use Rattle.std.specs.Prelude.{◌≡◌, ◌↔◌, [], IsSome};
+    ghost use Rattle.std.specs.Prelude.{◌≡◌, ◌↔◌, IsSome};
     ghost use Rattle.base.specs.Answer.{answer_of};
-    ghost use Rattle.ends.specs.Sides.{arriving_at};
+    ghost use Rattle.ends.specs.Sides.{IsUnset};
+    ghost use Rattle.ends.specs.declared.stretch.Phase.TheVariants.{Unset};
     ghost use Rattle.ends.specs.Moves.{clock_after, IsCall};
     ghost use Rattle.state.specs.Calls.{zeros, started};
 
     // Before any start: nothing is set, and every call answers so.
     pub fn unset() -> Ends
-        ensures desk { result.pair.desk.link ≡ zeros }
-        ensures chip { result.pair.chip.link ≡ zeros }
+        ensures desk { IsUnset result.pair.desk }
+        ensures chip { IsUnset result.pair.chip }
+        ensures stretch { result.stretch.phase ≡ Unset }
+        ensures counts { (result.passed ≡ 0) × (result.rounds ≡ 0) }
+        ensures clock { result.clock ≡ 0 }
     {
         Ends {
             pair: Pair {
@@ -74,10 +78,9 @@ impl Ends {
 
     // As before any start.
     pub fn unstart(&mut self)
-        ensures desk { self.new.pair.desk.link ≡ zeros }
-        ensures chip { self.new.pair.chip.link ≡ zeros }
-        ensures to_desk { arriving_at self.new.pair.desk ≡ [] }
-        ensures to_chip { arriving_at self.new.pair.chip ≡ [] }
+        ensures desk { IsUnset self.new.pair.desk }
+        ensures chip { IsUnset self.new.pair.chip }
+        ensures stretch { self.new.stretch.phase ≡ Unset }
         ensures counts { (self.new.passed ≡ 0) × (self.new.rounds ≡ 0) }
         ensures clock { self.new.clock ≡ 0 }
     {

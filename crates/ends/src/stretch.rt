@@ -22,7 +22,12 @@ pub struct Stretch {
 }
 
 impl Stretch {
-    pub(crate) fn unset() -> Stretch {
+    ghost use Rattle.std.specs.Prelude.{◌≡◌};
+    ghost use Rattle.ends.specs.declared.stretch.Phase.TheVariants.{Unset};
+
+    pub(crate) fn unset() -> Stretch
+        ensures { result.phase ≡ Unset }
+    {
         Stretch {
             phase: Phase::Unset,
             number: 0,
